@@ -1,0 +1,5 @@
+pub mod Basics
+pub mod Bits
+pub mod Sets
+pub mod Relations
+pub mod Walking

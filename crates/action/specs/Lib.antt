@@ -1,0 +1,4 @@
+pub mod Lists
+pub mod Action
+pub mod Sets
+pub mod Iterating
