@@ -1,0 +1,3 @@
+pub mod Catalogue
+pub mod Systems
+pub mod Layers
