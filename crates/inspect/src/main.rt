@@ -1,0 +1,36 @@
+// Shows the maker's table in the working folder: what it means, or why it is refused.
+use inspection::FILE_NAME;
+use inspection::inspect_table;
+use report::LONGEST_FILE;
+use std::error::AnyError;
+use std::fs::File;
+use std::io;
+use std::io::ErrorKind;
+use std::io::Read;
+
+// The bytes of a file. An absent file counts as empty, and of a long one no more is read than shows that it is long.
+fn read_file(rt: &LibcRuntime, name: &str) -> io::Result<Vec<u8>> {
+    let mut bytes = Vec::new(rt.alloc());
+    match File::open(rt, name) {
+        Ok(file) => {
+            file.take(LONGEST_FILE as u64 + 1).read_to_end(&mut bytes)?;
+        }
+        Err(error) => {
+            if error.kind() != ErrorKind::NotFound {
+                return Err(error);
+            }
+        }
+    }
+    Ok(bytes)
+}
+
+fn run(rt: &LibcRuntime) -> Result<(), AnyError> {
+    let file = read_file(rt, FILE_NAME)?;
+    let text = inspect_table(rt.alloc(), file)?;
+    print!(rt, "{text}")?;
+    Ok(())
+}
+
+fn main(rt: LibcRuntime) -> Result<(), AnyError> {
+    rt.report(run(&rt))
+}

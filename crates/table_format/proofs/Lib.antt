@@ -1,0 +1,11 @@
+pub mod Has
+pub mod Faults
+pub mod Numbers
+pub mod Sound
+pub mod FromBytes
+pub mod FromRecords
+pub mod Fine
+pub mod Law
+pub mod Passing
+pub mod Taken
+pub mod Worked
