@@ -1,0 +1,4 @@
+pub mod Modules
+pub mod Sets
+pub mod Walking
+pub mod Answering

@@ -1,0 +1,10 @@
+pub mod Finding
+pub mod Parsers
+pub mod Stacks
+pub mod Faults
+pub mod Changes
+pub mod Settling
+pub mod Steps
+pub mod Outcomes
+pub mod Promises
+pub mod Cases
