@@ -1,0 +1,6 @@
+pub mod Chains
+pub mod Rows
+pub mod Growing
+pub mod Ranking
+pub mod Sweeping
+pub mod Whole

@@ -1,0 +1,4 @@
+pub mod Rows
+pub mod Indexed
+pub mod Growth
+pub mod Ranks

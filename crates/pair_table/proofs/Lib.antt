@@ -1,0 +1,9 @@
+pub mod Clause
+pub mod Worked
+pub mod Adding
+pub mod Leads
+pub mod Explored
+pub mod Rounds
+pub mod Ranks
+pub mod Verdict
+pub mod Compose
