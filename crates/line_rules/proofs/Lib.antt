@@ -1,0 +1,11 @@
+pub mod Slots
+pub mod Congruence
+pub mod Ticked
+pub mod Live
+pub mod Put
+pub mod Histories
+pub mod TimeTold
+pub mod Drawn
+pub mod Worked
+pub mod Example
+pub mod Gathering
