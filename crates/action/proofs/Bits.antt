@@ -3,7 +3,7 @@ use Rattle.std.proofs.Common.{◌≡◌, ℕ, zero, suc, ◌+◌, ◌-◌, ◌*�
 use native.Mathlib.Nat.{zero-div, div_self, div-eq_of_lt, pow-succ', div-div-eq-div-mul}
 use lib.Bits.{bit_and, bit_or, and_step, and_shr, or_step, or_shr}
 use lib.Pow.{pow-lt}
-use Rattle.std.proofs.lemmas.Nat.{shl-shr, pow-add, shr_below}
+use Rattle.std.proofs.lemmas.Nat.{shl-shr, pow-add}
 use Rattle.std.proofs.lemmas.Bool.{cases_order}
 use Rattle.action.specs.Sets.{digit, packed}
 

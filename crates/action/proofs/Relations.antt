@@ -1,12 +1,12 @@
 -- All actions, and what is said of two sets: one within the other, and opposites that meet. Assumes nothing.
-use Rattle.std.proofs.Common.{◌≡◌, ℕ, zero, suc, ◌+◌, ◌-◌, ◌^◌, ◌<◌, ◌≤◌, min, Bool, true, false, not, ◌&&◌, ◌||◌, T, eqb, ◌⊎◌, ◌↔◌, List, [], ◌∷◌, ℤ, pos, negsuc, neg_ℤ, nat_abs, sym, refl, ap, ◌∙◌, subst, inl, inr, arith, eqb→eq, T_not}
+use Rattle.std.proofs.Common.{◌≡◌, ℕ, zero, suc, ◌+◌, ◌<◌, ◌≤◌, min, Bool, true, false, not, ◌&&◌, ◌||◌, T, eqb, ◌⊎◌, ℤ, pos, negsuc, neg_ℤ, nat_abs, sym, refl, ap, ◌∙◌, subst, inl, inr, arith, eqb→eq, T_not}
 use lib.Bits.{bit_and, and_lt}
 use Rattle.std.proofs.lemmas.Bool.{cases_lt}
 use Rattle.action.specs.declared.set.ActionSet.{ActionSet}
 use Rattle.action.specs.Lists.{◌∈◌}
 use Rattle.action.specs.Action.{internal, Opposite, same, last_port}
 use Rattle.action.specs.Sets.{place, signed, has, ◌∋◌, rising, actions, within, meets, meets_on}
-use Rattle.action.proofs.Basics.{and_l, and_r, and_i, or_cases, or_l, or_r, all_each, each_all, any_some, some_any, T_either, T_true, true_T, eq-eqb, le_split}
+use Rattle.action.proofs.Basics.{and_l, and_r, and_i, or_cases, or_l, or_r, all_each, each_all, any_some, some_any, T_either, eq-eqb, le_split}
 use Rattle.action.proofs.Bits.{bit, bits_tell, and_bit}
 use Rattle.action.proofs.Sets.{same_eq, place_below, place_signed, signed_place, signed_near, has_near, has_bit}
 

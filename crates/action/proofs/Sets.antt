@@ -1,15 +1,14 @@
 -- Laws of sets of actions. The other crates use these and never look at a word. Assumes nothing.
-use Rattle.std.proofs.Common.{◌≡◌, ℕ, zero, suc, ◌+◌, ◌-◌, ◌/◌, ◌%◌, ◌^◌, ◌<◌, ◌≤◌, Bool, true, false, not, ◌&&◌, ◌||◌, T, eqb, leb, ◌⊎◌, ◌↔◌, List, [], ◌∷◌, ℤ, pos, negsuc, neg_ℤ, nat_abs, sym, refl, ap, ◌∙◌, subst, inl, inr, arith, le→leb, eqb→eq, leb→le, T_not, w8, SFits, to_z, of_z}
+use Rattle.std.proofs.Common.{◌≡◌, ℕ, zero, suc, ◌+◌, ◌-◌, ◌^◌, ◌<◌, ◌≤◌, Bool, true, false, ◌&&◌, ◌||◌, T, eqb, leb, ◌⊎◌, ℤ, pos, negsuc, nat_abs, sym, refl, ap, ◌∙◌, subst, inl, inr, arith, le→leb, eqb→eq, leb→le, w8, SFits, to_z, of_z}
 use native.Mathlib.Bridge.{le_prop}
 use lib.Dec.{eqb_refl}
 use lib.Bits.{bit_or}
 use Rattle.std.proofs.lemmas.Int.{to_z-of_z}
 use Rattle.std.proofs.lemmas.Bool.{leb-true, leb-false, le-leb, lt-leb, cases_lt, cases_Bool, both_ways}
 use Rattle.action.specs.declared.set.ActionSet.{ActionSet}
-use Rattle.action.specs.Lists.{◌∈◌, all, any, kept}
-use Rattle.action.specs.Action.{internal, Opposite, is_action, same, last_port}
-use Rattle.action.specs.Sets.{place, signed, has, ◌∋◌, rising, actions, members, within, meets, digit, packed, set_of, no_actions}
-use Rattle.action.proofs.Basics.{and_l, and_r, and_i, or_cases, or_l, or_r, all_each, each_all, any_some, some_any, T_either, T_true, true_T}
+use Rattle.action.specs.Action.{is_action, same, last_port}
+use Rattle.action.specs.Sets.{place, signed, has, ◌∋◌, set_of, no_actions}
+use Rattle.action.proofs.Basics.{and_l, and_r, and_i, T_true, true_T}
 use Rattle.action.proofs.Bits.{bit, digit_is, none_bit, packed_bit, bits_tell, or_test, one_bit_same, one_bit_other}
 
 -- equal actions

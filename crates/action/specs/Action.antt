@@ -1,5 +1,5 @@
 -- Actions. Assumes nothing.
-use Rattle.std.specs.Prelude.{◌≡◌, ℕ, zero, suc, Bool, true, false, not, ◌&&◌, ◌≢◌, ℤ, pos, negsuc, neg_ℤ, Some, None, Option, ◌==◌, nat_le, unsigned_abs}
+use Rattle.std.specs.Prelude.{◌≡◌, ℕ, Bool, true, false, not, ◌&&◌, ◌≢◌, ℤ, pos, negsuc, neg_ℤ, Some, None, Option, ◌==◌, nat_le, unsigned_abs}
 
 -- Action p receives on port p, -p sends on it, and 0 is the internal event.
 abbrev pub internal : ℤ

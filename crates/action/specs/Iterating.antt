@@ -1,5 +1,5 @@
 -- Walking over a set of actions: the actions still to come. Assumes nothing.
-use Rattle.std.specs.Prelude.{◌≡◌, ℕ, ◌-◌, List, [], ◌∷◌, ℤ, Some, None, Option}
+use Rattle.std.specs.Prelude.{◌≡◌, ◌-◌, List, [], ◌∷◌, ℤ, Some, None, Option}
 use Rattle.action.specs.declared.set.iter.Actions.{Actions}
 use Rattle.action.specs.Lists.{kept}
 use Rattle.action.specs.Sets.{has, rising}

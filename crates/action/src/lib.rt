@@ -1,4 +1,6 @@
 // Actions and sets of actions, the alphabet of every module and every line.
+#![tactic(auto)]
+
 mod number;
 mod set;
 

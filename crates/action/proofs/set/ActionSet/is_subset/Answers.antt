@@ -1,5 +1,5 @@
 use lib.Bits.{bit_and}
-use Rattle.std.proofs.Common.{eqb, eqb→eq}
+use Rattle.std.proofs.Common.{eqb→eq}
 use Rattle.action.proofs.Basics.{eq-eqb}
 use Rattle.action.proofs.Relations.{within_is, and_within, within_and}
 use Rattle.action.proofs.set.ActionSet.is_subset.Goals as goal

@@ -25,7 +25,7 @@ returns c =
     let f = c.args.self.entries in
     let s = c.args.set in
     let out = c.loop-action.out in
-    let start : coming c.into-iter-action-iterator.result ≡ members s = ap coming c.into-iter-action-iterator.ensures.into-iter-gives ∙ c.iter-action-items.ensures in
+    let start : coming c.into_iter-action-iterator.result ≡ members s = ap coming c.into_iter-action-iterator.ensures.into_iter_gives ∙ c.iter-action-items.ensures in
     let is : out ≡ image f s = gathers_all f s out (λ a. ap (λ xs. gathers f out xs a) (sym c.in-None.ensures.steps.0) ∙ c.loop-action.invariant a ∙ ap (λ xs. gathers f c.empty-out.result xs a) start ∙ gathers_none f s c.empty-out.result c.empty-out.ensures a) in
     record {
       value = is;

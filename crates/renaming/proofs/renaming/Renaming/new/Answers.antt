@@ -9,11 +9,11 @@ returns-then-entries-ne31 c = record { made = fault_length c.args.entries.now c.
 pub returns-in-Some : goal.returns-in-Some
 returns-in-Some c = record { made = fault_entry c.args.entries.now c.in-Some.i c.if-entries-ne31.false c.in-Some.ensures; law = law_of c.args.entries.now }
 
-pub returns-in-Some-first-shared : goal.returns-in-Some-first-shared
-returns-in-Some-first-shared c = record { made = fault_shared c.args.entries.now c.in-Some-first-shared.i c.if-entries-ne31.false c.in-default.ensures c.in-Some-first-shared.ensures; law = law_of c.args.entries.now }
+pub returns-in-Some-first_shared : goal.returns-in-Some-first_shared
+returns-in-Some-first_shared c = record { made = fault_shared c.args.entries.now c.in-Some-first_shared.i c.if-entries-ne31.false c.in_default.ensures c.in-Some-first_shared.ensures; law = law_of c.args.entries.now }
 
-pub invariant-of-result : goal.invariant-of-result
-invariant-of-result c = (subst (λ xs. full xs ≡ true) (sym c.copy-from-slice.ensures.after) (right_full c.args.entries.now c.if-entries-ne31.false (sym c.in-default.ensures)), tt)
+pub invariant_of-result : goal.invariant_of-result
+invariant_of-result c = (subst (λ xs. full xs ≡ true) (sym c.copy_from_slice.ensures.after) (right_full c.args.entries.now c.if-entries-ne31.false (sym c.in_default.ensures)), tt)
 
 pub returns : goal.returns
-returns c = record { made = (fault_none c.args.entries.now c.if-entries-ne31.false c.in-default.ensures c.in-default-first-shared.ensures, c.copy-from-slice.ensures.after); law = law_of c.args.entries.now }
+returns c = record { made = (fault_none c.args.entries.now c.if-entries-ne31.false c.in_default.ensures c.in_default-first_shared.ensures, c.copy_from_slice.ensures.after); law = law_of c.args.entries.now }

@@ -7,12 +7,12 @@ pub loop-i-init : goal.loop-i-init
 unfolding first_shared
 loop-i-init c = least_start (shared c.args.entries.now) (length c.args.entries.now)
 
-pub returns-then-is-shared : goal.returns-then-is-shared
-returns-then-is-shared c =
+pub returns-then-is_shared : goal.returns-then-is_shared
+returns-then-is_shared c =
     let f = c.args.entries.now in
-    sym (least_found (shared f) (length f) c.loop-i.i c.loop-i-test.true (sym c.if-is-shared.ensures)) ∙ c.loop-i.invariant
+    sym (least_found (shared f) (length f) c.loop-i.i c.loop-i-test.true (sym c.if-is_shared.ensures)) ∙ c.loop-i.invariant
 
 pub loop-i-preserved : goal.loop-i-preserved
 loop-i-preserved c =
     let f = c.args.entries.now in
-    least_passed (shared f) (length f) c.loop-i.i c.loop-i-test.true (sym c.if-is-shared.ensures) ∙ c.loop-i.invariant
+    least_passed (shared f) (length f) c.loop-i.i c.loop-i-test.true (sym c.if-is_shared.ensures) ∙ c.loop-i.invariant

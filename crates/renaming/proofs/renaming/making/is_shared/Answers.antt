@@ -9,14 +9,14 @@ use Rattle.renaming.proofs.renaming.making.is_shared.Goals as goal
 told : (z : ℤ) (r : ℕ) → SFits w8 z → r ≡ nat_abs (to_z w8 (of_z w8 z)) → r ≡ nat_abs z
 told z r f e = e ∙ ap nat_abs (to_z-of_z w8 z f)
 
-pub returns-then-unsigned-abs : goal.returns-then-unsigned-abs
-returns-then-unsigned-abs c =
+pub returns-then-unsigned_abs : goal.returns-then-unsigned_abs
+returns-then-unsigned_abs c =
     let f = c.args.entries.now in
     let i = c.args.i in
     let j = c.loop-j.j in
     let fi : SFits w8 (get_or f i internal) = search rules in
     let fj : SFits w8 (get_or f j internal) = search rules in
-    sym (some_below (one_port f i) i j c.loop-j-test.true (eq-eqb _ _ (sym (told (get_or f i internal) c.unsigned-abs.result fi c.unsigned-abs.ensures.value) ∙ c.if-unsigned-abs.true ∙ told (get_or f j internal) c.unsigned-abs-in-loop-j.result fj c.unsigned-abs-in-loop-j.ensures.value)))
+    sym (some_below (one_port f i) i j c.loop-j-test.true (eq-eqb _ _ (sym (told (get_or f i internal) c.unsigned_abs.result fi c.unsigned_abs.ensures.value) ∙ c.if-unsigned_abs.true ∙ told (get_or f j internal) c.unsigned_abs-in-loop-j.result fj c.unsigned_abs-in-loop-j.ensures.value)))
 
 pub loop-j-preserved : goal.loop-j-preserved
 loop-j-preserved c =
@@ -25,4 +25,4 @@ loop-j-preserved c =
     let j = c.loop-j.j in
     let fi : SFits w8 (get_or f i internal) = search rules in
     let fj : SFits w8 (get_or f j internal) = search rules in
-    below_more (one_port f i) j c.loop-j.invariant (ne_eqb _ _ (λ e. c.if-unsigned-abs.false (told (get_or f i internal) c.unsigned-abs.result fi c.unsigned-abs.ensures.value ∙ e ∙ sym (told (get_or f j internal) c.unsigned-abs-in-loop-j.result fj c.unsigned-abs-in-loop-j.ensures.value))))
+    below_more (one_port f i) j c.loop-j.invariant (ne_eqb _ _ (λ e. c.if-unsigned_abs.false (told (get_or f i internal) c.unsigned_abs.result fi c.unsigned_abs.ensures.value ∙ e ∙ sym (told (get_or f j internal) c.unsigned_abs-in-loop-j.result fj c.unsigned_abs-in-loop-j.ensures.value))))

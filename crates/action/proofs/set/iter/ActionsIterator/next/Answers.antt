@@ -1,8 +1,8 @@
-use Rattle.std.proofs.Common.{◌≡◌, ℕ, suc, ◌+◌, ◌<◌, ℤ, pos, ◌-ℤ◌, sym, ap, ◌∙◌, arith, w8, to_z, of_z, rules}
+use Rattle.std.proofs.Common.{◌≡◌, ℕ, suc, ◌+◌, ◌<◌, pos, ◌-ℤ◌, sym, ◌∙◌, arith, w8, to_z, of_z, rules}
 use Rattle.std.proofs.lemmas.Int.{ints}
 use Rattle.action.specs.Sets.{signed}
 use Rattle.action.specs.Iterating.{coming}
-use Rattle.action.proofs.Walking.{from, from_held, from_passed, from_end, counted}
+use Rattle.action.proofs.Walking.{from_held, from_passed, from_end, counted}
 use Rattle.action.proofs.set.iter.ActionsIterator.next.Goals as goal
 use Rattle.std.proofs.iter.Next.{firm}
 
