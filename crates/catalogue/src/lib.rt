@@ -1,4 +1,6 @@
 // What a catalogue of modules answers, and what it shows of itself.
+#![tactic(auto)]
+
 ghost use Rattle.std.specs.Prelude.{◌≡◌, List, length};
 ghost use Rattle.std.specs.Option.{option_map};
 ghost use Rattle.action.specs.Lists.{nth};

@@ -1,4 +1,6 @@
 // Renamings of ports: how a slot, or a whole catalogue, is wired to its surroundings.
+#![tactic(auto)]
+
 mod fault;
 mod renaming;
 

@@ -24,14 +24,14 @@ pub returns-then-sends : goal.returns-then-sends
 returns-then-sends c = record {
   plain = tt;
   kind =
-      ap act (negative c.port-number-number.result c.port-number-number.ensures.small)
-      ∙ chosen true c.args.sends c.port-number-number.result _ c.if-sends.true c.port-number-number.ensures.value c.if-number-eq0.false;
+      ap act (negative c.port_number-number.result c.port_number-number.ensures.small)
+      ∙ chosen true c.args.sends c.port_number-number.result _ c.if-sends.true c.port_number-number.ensures.value c.if-number-eq0.false;
 }
 
 pub returns-else-sends : goal.returns-else-sends
 returns-else-sends c = record {
   plain = tt;
   kind =
-      ap act (to_z_pos w8 c.port-number-number.result (omega (arith, c.port-number-number.ensures.small)))
-      ∙ chosen false c.args.sends c.port-number-number.result _ c.if-sends.false c.port-number-number.ensures.value c.if-number-eq0.false;
+      ap act (to_z_pos w8 c.port_number-number.result (omega (arith, c.port_number-number.ensures.small)))
+      ∙ chosen false c.args.sends c.port_number-number.result _ c.if-sends.false c.port_number-number.ensures.value c.if-number-eq0.false;
 }

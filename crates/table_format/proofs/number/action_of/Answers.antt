@@ -4,5 +4,5 @@ use Rattle.table_format.proofs.number.action_of.Goals as goal
 
 pub returns : goal.returns
 returns c =
-    let f : SFits w8 c.cast-signed.result = search rules in
-    to_z-of_z f ∙ c.cast-signed.ensures ∙ cast_action c.args.byte c.ranges.byte.fits
+    let f : SFits w8 c.cast_signed.result = search rules in
+    to_z-of_z f ∙ c.cast_signed.ensures ∙ cast_action c.args.byte c.ranges.byte.fits

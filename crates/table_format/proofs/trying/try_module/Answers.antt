@@ -13,33 +13,33 @@ states_of b m = states_fault b (codes_at b m) (after b m) (codes_at b m) (m + 6)
 at-states : (b : List ℕ) (n e m : ℕ) (o : Option TableFault) → n ≡ codes_at b m → e ≡ after b m → states_fault b n e n (m + 6) ≡ o → states_of b m ≡ o
 at-states b n e m o p q h = ap (λ x. states_fault b x (after b m) x (m + 6)) (sym p) ∙ ap (λ x. states_fault b n x n (m + 6)) (sym q) ∙ h
 
-pub returns-in-err-end : goal.returns-in-err-end
+pub returns-in_err-end : goal.returns-in_err-end
 unfolding module_fault
-returns-in-err-end c =
-    let p = err_from_is_err_and c.from-residual.result c.from-residual.ensures.1 in
+returns-in_err-end c =
+    let p = err_from_is_err_and c.from_residual.result c.from_residual.ensures.1 in
     let b = c.args.bytes.now in let m = c.args.m in
-    rw (p.1, p.2) (some_then (module_length_fault b m) (module_head_fault b m ▹ states_of b m) _ c.in-err-end.ensures)
+    rw (p.1, p.2) (some_then (module_length_fault b m) (module_head_fault b m ▹ states_of b m) _ c.in_err-end.ensures)
 
-pub returns-in-err-codes : goal.returns-in-err-codes
+pub returns-in_err-codes : goal.returns-in_err-codes
 unfolding module_fault
-returns-in-err-codes c =
-    let p = err_from_is_err_and c.from-residual-in-err-codes.result c.from-residual-in-err-codes.ensures.1 in
+returns-in_err-codes c =
+    let p = err_from_is_err_and c.from_residual-in_err-codes.result c.from_residual-in_err-codes.ensures.1 in
     let b = c.args.bytes.now in let m = c.args.m in
-    rw (p.1, p.2) (none_then (module_length_fault b m) (module_head_fault b m ▹ states_of b m) c.in-ok-end.ensures.0 ∙ some_then (module_head_fault b m) (states_of b m) _ c.in-err-codes.ensures)
+    rw (p.1, p.2) (none_then (module_length_fault b m) (module_head_fault b m ▹ states_of b m) c.in_ok-end.ensures.0 ∙ some_then (module_head_fault b m) (states_of b m) _ c.in_err-codes.ensures)
 
-pub returns-in-err-try-states : goal.returns-in-err-try-states
+pub returns-in_err-try_states : goal.returns-in_err-try_states
 unfolding module_fault
-returns-in-err-try-states c =
-    let p = err_from_is_err_and c.from-residual-in-err-try-states.result c.from-residual-in-err-try-states.ensures.1 in
+returns-in_err-try_states c =
+    let p = err_from_is_err_and c.from_residual-in_err-try_states.result c.from_residual-in_err-try_states.ensures.1 in
     let b = c.args.bytes.now in let m = c.args.m in
-    rw (p.1, p.2) (none_then (module_length_fault b m) (module_head_fault b m ▹ states_of b m) c.in-ok-end.ensures.0 ∙ none_then (module_head_fault b m) (states_of b m) c.in-ok-codes.ensures.0
-    ∙ at-states b c.in-ok-codes.codes c.in-ok-end.end m (Some c.in-err-try-states.field-0.0) c.in-ok-codes.ensures.1 c.in-ok-end.ensures.1 c.in-err-try-states.ensures)
+    rw (p.1, p.2) (none_then (module_length_fault b m) (module_head_fault b m ▹ states_of b m) c.in_ok-end.ensures.0 ∙ none_then (module_head_fault b m) (states_of b m) c.in_ok-codes.ensures.0
+    ∙ at-states b c.in_ok-codes.codes c.in_ok-end.end m (Some c.in_err-try_states.field-0.0) c.in_ok-codes.ensures.1 c.in_ok-end.ensures.1 c.in_err-try_states.ensures)
 
 pub returns : goal.returns
 unfolding module_fault
 returns c =
     let b = c.args.bytes.now in let m = c.args.m in (
-      then_i (module_length_fault b m) (module_head_fault b m ▹ states_of b m) c.in-ok-end.ensures.0 (then_i (module_head_fault b m) (states_of b m) c.in-ok-codes.ensures.0
-          (at-states b c.in-ok-codes.codes c.in-ok-end.end m None c.in-ok-codes.ensures.1 c.in-ok-end.ensures.1 c.in-ok-try-states.ensures)),
-      c.in-ok-end.ensures.1,
+      then_i (module_length_fault b m) (module_head_fault b m ▹ states_of b m) c.in_ok-end.ensures.0 (then_i (module_head_fault b m) (states_of b m) c.in_ok-codes.ensures.0
+          (at-states b c.in_ok-codes.codes c.in_ok-end.end m None c.in_ok-codes.ensures.1 c.in_ok-end.ensures.1 c.in_ok-try_states.ensures)),
+      c.in_ok-end.ensures.1,
     )

@@ -14,7 +14,7 @@ loop-port-preserved c =
     written_more c.loop-port.entries p _ c.loop-port.auto.port (omega (arith, c.loop-port-test.true)) (to_z_pos w8 p (omega (arith, c.loop-port-test.true))) c.loop-port.invariant
 
 pub invariant_of-result : goal.invariant_of-result
-invariant_of-result c = (subst (λ f. full f ≡ true) (sym (written_all c.loop-port.entries c.loop-port.port c.loop-port-test.false c.loop-port.invariant)) itself_full, tt)
+invariant_of-result c = record { full = subst (λ f. full f ≡ true) (sym (written_all c.loop-port.entries c.loop-port.port c.loop-port-test.false c.loop-port.invariant)) itself_full }
 
 pub returns : goal.returns
 returns c =

@@ -13,7 +13,7 @@ pub returns-in-Some-first_shared : goal.returns-in-Some-first_shared
 returns-in-Some-first_shared c = record { made = fault_shared c.args.entries.now c.in-Some-first_shared.i c.if-entries-ne31.false c.in_default.ensures c.in-Some-first_shared.ensures; law = law_of c.args.entries.now }
 
 pub invariant_of-result : goal.invariant_of-result
-invariant_of-result c = (subst (λ xs. full xs ≡ true) (sym c.copy_from_slice.ensures.after) (right_full c.args.entries.now c.if-entries-ne31.false (sym c.in_default.ensures)), tt)
+invariant_of-result c = record { full = subst (λ xs. full xs ≡ true) (sym c.copy_from_slice.ensures.after) (right_full c.args.entries.now c.if-entries-ne31.false (sym c.in_default.ensures)) }
 
 pub returns : goal.returns
 returns c = record { made = (fault_none c.args.entries.now c.if-entries-ne31.false c.in_default.ensures c.in_default-first_shared.ensures, c.copy_from_slice.ensures.after); law = law_of c.args.entries.now }
