@@ -72,9 +72,9 @@ fn find(index: &Index, rows: &[PairRow], count: usize, new: u32, old: u32) -> Op
 
 // Writes a pair into the row behind the first `count`, and links it.
 fn append(index: &mut Index, rows: &mut [PairRow], count: usize, new: u32, old: u32)
-    requires indexed_2 { Indexed index.old rows.old count }
-    requires count_in_bounds { count < length rows.old }
-    requires count_lt_most_rows { count < most_rows }
+    requires linked { Indexed index.old rows.old count }
+    requires room { count < length rows.old }
+    requires few { count < most_rows }
     requires absent { Absent rows.old count new old }
     ensures after { rows.new ≡ slice_set rows.old count (fresh new old) }
     ensures indexed { Indexed index.new rows.new (count + 1) }
@@ -199,8 +199,8 @@ fn expand<C: Catalogue>(
     olds: &mut [Move],
 ) -> Result<usize, CompareFault>
     requires fresh { Fresh index.old table.old from }
-    requires most_moves_in_bounds { most_moves ≤ length news.old }
-    requires most_moves_in_bounds_2 { most_moves ≤ length olds.old }
+    requires news_room { most_moves ≤ length news.old }
+    requires olds_room { most_moves ≤ length olds.old }
     ensures { MatchResult result (λ n. Grew index.new table.old table.new from n (added (pairs_of from table.old) (leads_to (module_in (C.Catalogue.meaning catalogue.now) new) (module_in (C.Catalogue.meaning catalogue.now) old) (pair_of found)))) (λ e. Full table.old table.new (added (pairs_of from table.old) (leads_to (module_in (C.Catalogue.meaning catalogue.now) new) (module_in (C.Catalogue.meaning catalogue.now) old) (pair_of found))) e) }
 {
     let n = gather(catalogue, new, found.new, news);
@@ -224,8 +224,8 @@ fn explore<C: Catalogue>(
     olds: &mut [Move],
 ) -> Result<usize, CompareFault>
     requires fresh { Fresh index.old table.old from }
-    requires most_moves_in_bounds { most_moves ≤ length news.old }
-    requires most_moves_in_bounds_2 { most_moves ≤ length olds.old }
+    requires news_room { most_moves ≤ length news.old }
+    requires olds_room { most_moves ≤ length olds.old }
     ensures { MatchResult result (λ n. Grew index.new table.old table.new from n (explored (module_in (C.Catalogue.meaning catalogue.now) new) (module_in (C.Catalogue.meaning catalogue.now) old) most_rows 0 (pairs_of from table.old))) (λ e. Full table.old table.new (explored (module_in (C.Catalogue.meaning catalogue.now) new) (module_in (C.Catalogue.meaning catalogue.now) old) most_rows 0 (pairs_of from table.old)) e) }
 {
     let mut count = from;
@@ -374,8 +374,8 @@ fn drop_round<C: Catalogue>(
 ) -> u32
     requires indexed { Indexed index.now table.now count }
     requires modest { Modest table.now count }
-    requires most_moves_in_bounds { most_moves ≤ length news.old }
-    requires most_moves_in_bounds_2 { most_moves ≤ length olds.old }
+    requires news_room { most_moves ≤ length news.old }
+    requires olds_room { most_moves ≤ length olds.old }
     ensures { JudgedRow (module_in (C.Catalogue.meaning catalogue.now) new) (module_in (C.Catalogue.meaning catalogue.now) old) table.now count held.new held.old held.rank result }
 {
     let tick = tick_unmatched(catalogue, new, old, table, index, count, held, held.rank);
@@ -398,8 +398,8 @@ fn sweep<C: Catalogue>(
     olds: &mut [Move],
 ) -> bool
     requires fair { Fair (module_in (C.Catalogue.meaning catalogue.now) new) (module_in (C.Catalogue.meaning catalogue.now) old) (pairs_of count table.old) index.now table.old count }
-    requires most_moves_in_bounds { most_moves ≤ length news.old }
-    requires most_moves_in_bounds_2 { most_moves ≤ length olds.old }
+    requires news_room { most_moves ≤ length news.old }
+    requires olds_room { most_moves ≤ length olds.old }
     ensures { Swept (module_in (C.Catalogue.meaning catalogue.now) new) (module_in (C.Catalogue.meaning catalogue.now) old) (pairs_of count table.old) index.now table.old table.new count 0 result }
 {
     let mut fell = false;
@@ -430,8 +430,8 @@ fn settle<C: Catalogue>(
     olds: &mut [Move],
 )
     requires fair { Fair (module_in (C.Catalogue.meaning catalogue.now) new) (module_in (C.Catalogue.meaning catalogue.now) old) (pairs_of count table.old) index.now table.old count }
-    requires most_moves_in_bounds { most_moves ≤ length news.old }
-    requires most_moves_in_bounds_2 { most_moves ≤ length olds.old }
+    requires news_room { most_moves ≤ length news.old }
+    requires olds_room { most_moves ≤ length olds.old }
     ensures alike { Alike table.old table.new count }
     ensures ranked { (i : ℕ) → i < count → (row table.new i).rank ≡ rank_in (module_in (C.Catalogue.meaning catalogue.now) new) (module_in (C.Catalogue.meaning catalogue.now) old) (pairs_of count table.old) (pair_of (row table.new i)) }
 {

@@ -9,7 +9,6 @@ use catalogue::Catalogue;
 use compare::compare;
 use pair_table::{CompareFault, Compared, PairRow};
 use std::alloc::{AllocError, Global};
-use std::fmt;
 
 // The rows of the table that modules are compared in: as many as are ever filled.
 const TABLE_ROWS: usize = 32768;
@@ -26,7 +25,7 @@ fn add_answer(
     new: usize,
     old: usize,
     answer: Result<Compared, CompareFault>,
-) -> fmt::Result
+) -> Result<(), AllocError>
     ensures { Added out.old out.new (answer_line new old answer) result }
 {
     match answer {
@@ -43,7 +42,7 @@ fn add_answer(
 }
 
 // The line of a row.
-fn add_row(out: &mut String, row: PairRow) -> fmt::Result
+fn add_row(out: &mut String, row: PairRow) -> Result<(), AllocError>
     ensures { Added out.old out.new (row_line row) result }
 {
     let new = row.new;
@@ -53,7 +52,7 @@ fn add_row(out: &mut String, row: PairRow) -> fmt::Result
 }
 
 // The lines of some rows.
-fn add_rows(out: &mut String, rows: &[PairRow]) -> fmt::Result
+fn add_rows(out: &mut String, rows: &[PairRow]) -> Result<(), AllocError>
     ensures { Added out.old out.new (each row_line rows.now) result }
 {
     for row in rows {
@@ -68,7 +67,7 @@ fn add_comparisons<C: Catalogue>(
     catalogue: &C,
     new: usize,
     table: &mut [PairRow],
-) -> fmt::Result
+) -> Result<(), AllocError>
     ensures { Added out.old out.new (comparison_lines (C.Catalogue.meaning catalogue.now) (length table.old) new) result }
 {
     let count = catalogue.modules();
@@ -80,7 +79,11 @@ fn add_comparisons<C: Catalogue>(
 }
 
 // Every new module with every old one.
-fn add_all<C: Catalogue>(out: &mut String, catalogue: &C, table: &mut [PairRow]) -> fmt::Result
+fn add_all<C: Catalogue>(
+    out: &mut String,
+    catalogue: &C,
+    table: &mut [PairRow],
+) -> Result<(), AllocError>
     ensures { Added out.old out.new (numbered (λ new m. comparison_lines (C.Catalogue.meaning catalogue.now) (length table.old) new) 0 (C.Catalogue.meaning catalogue.now)) result }
 {
     let count = catalogue.modules();
@@ -97,7 +100,7 @@ fn add_comparison<C: Catalogue>(
     new: usize,
     old: usize,
     table: &mut [PairRow],
-) -> fmt::Result
+) -> Result<(), AllocError>
     ensures { Added out.old out.new (comparison_within (C.Catalogue.meaning catalogue.now) (length table.old) new old) result }
 {
     let answer = compare(catalogue, new, old, table);
@@ -117,10 +120,8 @@ pub fn comparisons_text<C: Catalogue>(heap: Global, catalogue: &C) -> Result<Str
 {
     let mut table = vec![in heap; NO_PAIR; TABLE_ROWS]?;
     let mut lines = String::new(heap);
-    match add_all(&mut lines, catalogue, &mut table) {
-        Ok(()) => Ok(lines),
-        Err(_) => Err(AllocError),
-    }
+    add_all(&mut lines, catalogue, &mut table)?;
+    Ok(lines)
 }
 
 // One new module with one old one: their line, and where they are compared the rows of their pairs, a line each.
@@ -134,8 +135,6 @@ pub fn comparison_text<C: Catalogue>(
 {
     let mut table = vec![in heap; NO_PAIR; TABLE_ROWS]?;
     let mut out = String::new(heap);
-    match add_comparison(&mut out, catalogue, new, old, &mut table) {
-        Ok(()) => Ok(out),
-        Err(_) => Err(AllocError),
-    }
+    add_comparison(&mut out, catalogue, new, old, &mut table)?;
+    Ok(out)
 }

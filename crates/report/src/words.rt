@@ -7,6 +7,7 @@ ghost use Rattle.report.specs.Adding.{Added};
 
 use action::ActionSet;
 use catalogue::{Catalogue, Move};
+use std::alloc::AllocError;
 use std::fmt;
 
 mod lines;
@@ -35,7 +36,7 @@ impl fmt::Display for ActionText {
 }
 
 // The target of a tick, with a space in front.
-fn add_tick(out: &mut String, tick: Option<u32>) -> fmt::Result
+fn add_tick(out: &mut String, tick: Option<u32>) -> Result<(), AllocError>
     ensures { Added out.old out.new (tick_text tick) result }
 {
     match tick {
@@ -45,7 +46,7 @@ fn add_tick(out: &mut String, tick: Option<u32>) -> fmt::Result
 }
 
 // A move, with a space in front.
-fn add_move(out: &mut String, step: Move) -> fmt::Result
+fn add_move(out: &mut String, step: Move) -> Result<(), AllocError>
     ensures { Added out.old out.new (ascii " " ⧺ move_text step) result }
 {
     let action = ActionText(step.action);
@@ -54,7 +55,12 @@ fn add_move(out: &mut String, step: Move) -> fmt::Result
 }
 
 // The moves of a state.
-fn add_moves<C: Catalogue>(out: &mut String, catalogue: &C, part: usize, code: u32) -> fmt::Result
+fn add_moves<C: Catalogue>(
+    out: &mut String,
+    catalogue: &C,
+    part: usize,
+    code: u32,
+) -> Result<(), AllocError>
     ensures { Added out.old out.new (listed move_text (state_in (C.Catalogue.meaning catalogue.now) part code).moves) result }
 {
     let mut number = 0;
@@ -69,7 +75,7 @@ fn add_moves<C: Catalogue>(out: &mut String, catalogue: &C, part: usize, code: u
 }
 
 // An urgent action, with a space in front.
-fn add_action(out: &mut String, number: i8) -> fmt::Result
+fn add_action(out: &mut String, number: i8) -> Result<(), AllocError>
     ensures { Added out.old out.new (ascii " " ⧺ action_text number) result }
 {
     let action = ActionText(number);
@@ -77,7 +83,7 @@ fn add_action(out: &mut String, number: i8) -> fmt::Result
 }
 
 // The urgent actions of a state, in rising order.
-fn add_urgent(out: &mut String, urgent: ActionSet) -> fmt::Result
+fn add_urgent(out: &mut String, urgent: ActionSet) -> Result<(), AllocError>
     ensures { Added out.old out.new (listed action_text (members urgent)) result }
 {
     let mut rest = urgent.iter();

@@ -10,7 +10,6 @@ use line::{Line, SlotPlan, draw};
 use line_rules::{DrawFault, SwapFault};
 use pair_table::PairRow;
 use std::alloc::{AllocError, Global};
-use std::fmt;
 
 // The most slots of a line.
 const MOST_SLOTS: usize = 16;
@@ -31,7 +30,12 @@ const UNRENAMED: [i8; 31] = [
 ];
 
 // The line of a swap that is refused.
-fn add_refused(out: &mut String, slot: usize, part: usize, fault: SwapFault) -> fmt::Result
+fn add_refused(
+    out: &mut String,
+    slot: usize,
+    part: usize,
+    fault: SwapFault,
+) -> Result<(), AllocError>
     ensures { Added out.old out.new (trial_line slot part (Err fault)) result }
 {
     let number = fault.number();
@@ -47,7 +51,7 @@ fn add_trial(
     slot: usize,
     part: usize,
     outcome: Result<usize, SwapFault>,
-) -> fmt::Result
+) -> Result<(), AllocError>
     ensures { Added out.old out.new (trial_line slot part outcome) result }
 {
     match outcome {
@@ -63,7 +67,7 @@ fn try_slot<C: Catalogue>(
     line: &mut Line,
     slot: usize,
     table: &mut [PairRow],
-) -> fmt::Result
+) -> Result<(), AllocError>
     ensures { OnOk result (Tried (C.Catalogue.meaning catalogue.now) (line_of line.old) (line_of line.new) (string_bytes out.old) (string_bytes out.new) (slot_trials (length table.old) (length (C.Catalogue.meaning catalogue.now)) slot)) }
 {
     let count = catalogue.modules();
@@ -80,7 +84,7 @@ fn try_all<C: Catalogue>(
     catalogue: &C,
     line: &mut Line,
     table: &mut [PairRow],
-) -> fmt::Result
+) -> Result<(), AllocError>
     ensures { Added out.old out.new (told (C.Catalogue.meaning catalogue.now) (line_of line.old) (trials (length table.old) (length (C.Catalogue.meaning catalogue.now)) (length (line_of line.old).slots))) result }
 {
     let count = line.slots();
@@ -97,10 +101,8 @@ fn trials_text<C: Catalogue>(heap: Global, catalogue: &C, drawn: Line) -> Result
     let mut line = drawn;
     let mut table = vec![in heap; NO_PAIR; TABLE_ROWS]?;
     let mut out = String::new(heap);
-    match try_all(&mut out, catalogue, &mut line, &mut table) {
-        Ok(()) => Ok(out),
-        Err(_) => Err(AllocError),
-    }
+    try_all(&mut out, catalogue, &mut line, &mut table)?;
+    Ok(out)
 }
 
 // Why the line is not drawn.

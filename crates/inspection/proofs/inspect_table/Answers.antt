@@ -6,16 +6,16 @@ use Rattle.inspection.specs.Inspected.{file_name, inspected}
 use Rattle.inspection.proofs.Shown.{made_as, long_shown, table_shown, fault_shown}
 use Rattle.inspection.proofs.inspect_table.Goals as goal
 
-pub returns-then-len-gt-LONGEST-FILE : goal.returns-then-len-gt-LONGEST-FILE
-returns-then-len-gt-LONGEST-FILE c = made_as c.long-text.result (long_line file_name) (inspected (vec_items c.args.file)) (long_shown (vec_items c.args.file) (omega (arith, c.args.file.ok.0))) c.long-text.ensures
+pub returns-then-len-gt-LONGEST_FILE : goal.returns-then-len-gt-LONGEST_FILE
+returns-then-len-gt-LONGEST_FILE c = made_as c.long_text.result (long_line file_name) (inspected (vec_items c.args.file)) (long_shown (vec_items c.args.file) (omega (arith, c.args.file.ok.0))) c.long_text.ensures
 
 pub returns-in-Ok : goal.returns-in-Ok
 returns-in-Ok c =
     let t = c.in-Ok.ensures.answer in
-    made_as c.catalogue-text.result (catalogue_lines file_name (meaning (written c.in-Ok.table))) (inspected (vec_items c.args.file))
-    (table_shown (vec_items c.args.file) (written c.in-Ok.table) (omega (arith, c.args.file.ok.0)) t.0 t.1) c.catalogue-text.ensures
+    made_as c.catalogue_text.result (catalogue_lines file_name (meaning (written c.in-Ok.table))) (inspected (vec_items c.args.file))
+    (table_shown (vec_items c.args.file) (written c.in-Ok.table) (omega (arith, c.args.file.ok.0)) t.0 t.1) c.catalogue_text.ensures
 
 pub returns-in-Some : goal.returns-in-Some
 returns-in-Some c =
-    made_as c.fault-text.result (fault_line file_name c.in-Some.number c.place.result) (inspected (vec_items c.args.file))
-    (fault_shown (vec_items c.args.file) c.in-Err.fault c.in-Some.number c.place.result (omega (arith, c.args.file.ok.0)) c.in-Some.ensures c.place.ensures c.in-Err.ensures.answer) c.fault-text.ensures
+    made_as c.fault_text.result (fault_line file_name c.in-Some.number c.place.result) (inspected (vec_items c.args.file))
+    (fault_shown (vec_items c.args.file) c.in-Err.fault c.in-Some.number c.place.result (omega (arith, c.args.file.ok.0)) c.in-Some.ensures c.place.ensures c.in-Err.ensures.answer) c.fault_text.ensures

@@ -7,10 +7,14 @@ ghost use Rattle.report.specs.Adding.{Added};
 use super::{add_moves, add_tick, add_urgent};
 use catalogue::Catalogue;
 use std::alloc::{AllocError, Global};
-use std::fmt;
 
 // The line of a state.
-fn add_state<C: Catalogue>(out: &mut String, catalogue: &C, part: usize, code: u32) -> fmt::Result
+fn add_state<C: Catalogue>(
+    out: &mut String,
+    catalogue: &C,
+    part: usize,
+    code: u32,
+) -> Result<(), AllocError>
     ensures { Added out.old out.new (state_line part code (state_in (C.Catalogue.meaning catalogue.now) part code)) result }
 {
     write!(out, "{part}.{code}: tick")?;
@@ -24,7 +28,7 @@ fn add_state<C: Catalogue>(out: &mut String, catalogue: &C, part: usize, code: u
 }
 
 // The lines of a module: its own, and those of its states.
-fn add_module<C: Catalogue>(out: &mut String, catalogue: &C, part: usize) -> fmt::Result
+fn add_module<C: Catalogue>(out: &mut String, catalogue: &C, part: usize) -> Result<(), AllocError>
     ensures { Added out.old out.new (module_lines part (module_in (C.Catalogue.meaning catalogue.now) part)) result }
 {
     let codes = catalogue.codes(part).unwrap_or(0);
@@ -37,7 +41,11 @@ fn add_module<C: Catalogue>(out: &mut String, catalogue: &C, part: usize) -> fmt
 }
 
 // The lines of a catalogue, under the name of its file.
-fn add_catalogue<C: Catalogue>(out: &mut String, name: &str, catalogue: &C) -> fmt::Result
+fn add_catalogue<C: Catalogue>(
+    out: &mut String,
+    name: &str,
+    catalogue: &C,
+) -> Result<(), AllocError>
     ensures { Added out.old out.new (catalogue_lines name.now (C.Catalogue.meaning catalogue.now)) result }
 {
     let count = catalogue.modules();
@@ -57,10 +65,8 @@ pub fn catalogue_text<C: Catalogue>(
     ensures { IfOk result (λ s. string_bytes s ≡ catalogue_lines name.now (C.Catalogue.meaning catalogue.now)) }
 {
     let mut out = String::new(heap);
-    match add_catalogue(&mut out, name, catalogue) {
-        Ok(()) => Ok(out),
-        Err(_) => Err(AllocError),
-    }
+    add_catalogue(&mut out, name, catalogue)?;
+    Ok(out)
 }
 
 // Why a file is refused, under its name: the number of the refusal, and its place in the file.

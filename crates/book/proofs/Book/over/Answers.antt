@@ -10,8 +10,8 @@ use Rattle.book.proofs.Book.over.Goals as goal
 few : (c : goal.In-Ok) → c.loop-part.part < 64
 few c = (accepted c.args.places.now c.loop-part.part (row_of c.args.modules.now c.loop-part.part) c.in-Ok.ensures.0).few_modules
 
-pub offset-bounds-table-part : goal.offset-bounds-table-part
-offset-bounds-table-part c = let l = few c in search rules
+pub offset_bounds-table-part : goal.offset_bounds-table-part
+offset_bounds-table-part c = let l = few c in search rules
 
 pub bounds-table-part : goal.bounds-table-part
 bounds-table-part c = let l = few c in search rules
@@ -23,19 +23,19 @@ loop-part-preserved c =
     let n = c.loop-part.invariant.0 in
     (length-set c.loop-part.table c.loop-part.part record { of = c.in-Ok.summaries } ∙ n, fault_later rows ms c.loop-part.part c.loop-part-test.true c.loop-part.invariant.1 c.in-Ok.ensures.0, keeps_more rows ms c.loop-part.part c.loop-part.table c.in-Ok.summaries (omega (arith, few c)) c.loop-part.invariant.2 c.in-Ok.ensures.1)
 
-pub invariant-of-result : goal.invariant-of-result
-invariant-of-result c =
+pub invariant_of-result : goal.invariant_of-result
+invariant_of-result c =
     let rows = c.args.places.now in
     let ms = c.args.modules.now in
     let e = c.in-Err.found in
-    (fault_here rows ms c.loop-part.part e c.loop-part-test.true c.loop-part.invariant.1 c.in-Err.ensures, ((λ s. absurd (no_site rows ms e s)), ((λ s. absurd (no_site rows ms e s)), tt)))
+    record { tried = fault_here rows ms c.loop-part.part e c.loop-part-test.true c.loop-part.invariant.1 c.in-Err.ensures; depths = λ s. absurd (no_site rows ms e s); counts = λ s. absurd (no_site rows ms e s) }
 
-pub invariant-of-result-2 : goal.invariant-of-result-2
-invariant-of-result-2 c =
+pub invariant_of-result-2 : goal.invariant_of-result-2
+invariant_of-result-2 c =
     let rows = c.args.places.now in
     let ms = c.args.modules.now in
     let h = site_kept rows ms c.loop-part.table (λ k l. c.loop-part.invariant.2 k (omega (arith, c.loop-part-test.false))) in
-    (fault_none rows ms c.loop-part.part c.loop-part-test.false c.loop-part.invariant.1, ((λ s. ap (λ (x : Summary). x.depth) (h s)), ((λ s. ap (λ (x : Summary). x.moves) (h s)), tt)))
+    record { tried = fault_none rows ms c.loop-part.part c.loop-part-test.false c.loop-part.invariant.1; depths = λ s. ap (λ (x : Summary). x.depth) (h s); counts = λ s. ap (λ (x : Summary). x.moves) (h s) }
 
 pub returns-in-Err : goal.returns-in-Err
 returns-in-Err c =

@@ -1,4 +1,4 @@
 use Rattle.book.proofs.questions.+move_from.Given as goal
 
-abbrev pub decreases-move-from : goal.decreases-move-from
-decreases-move-from l = l.left
+abbrev pub decreases-move_from : goal.decreases-move_from
+decreases-move_from l = l.left

@@ -1,4 +1,4 @@
 use Rattle.book.proofs.questions.+urgent_from.Given as goal
 
-abbrev pub decreases-urgent-from : goal.decreases-urgent-from
-decreases-urgent-from l = l.left
+abbrev pub decreases-urgent_from : goal.decreases-urgent_from
+decreases-urgent_from l = l.left

@@ -15,4 +15,4 @@ returns-then-number-table c =
     ∙ sym (ap (λ (x : State). nth x.moves c.args.number) (in_range c.args.places.now c.args.code c.if-place-places.false))
 
 pub returns : goal.returns
-returns c = c.move-from.ensures ∙ sym (ap (λ (x : State). nth x.moves c.args.number) (in_range c.args.places.now c.args.code c.if-place-places.false))
+returns c = c.move_from.ensures ∙ sym (ap (λ (x : State). nth x.moves c.args.number) (in_range c.args.places.now c.args.code c.if-place-places.false))

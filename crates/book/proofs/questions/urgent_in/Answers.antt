@@ -11,4 +11,4 @@ returns-then-place-places c =
     ∙ sym (ap (λ (x : State). x.urgent) (out_of_range c.args.places.now c.args.code c.if-place-places.true))
 
 pub returns : goal.returns
-returns c = c.urgent-from.ensures ∙ sym (ap (λ (x : State). x.urgent) (in_range c.args.places.now c.args.code c.if-place-places.false))
+returns c = c.urgent_from.ensures ∙ sym (ap (λ (x : State). x.urgent) (in_range c.args.places.now c.args.code c.if-place-places.false))

@@ -15,7 +15,7 @@ returns-in-err-no-longer c = λ P M st.
 
 pub returns-in-Some : goal.returns-in-Some
 returns-in-Some c = λ P M st. (
-  left_again c.args.text.now c.args.parser.now P M c.args.at st c.args.x.now c.in-Some.-i c.requires.here c.in-ok-no-longer.ensures
+  left_again c.args.text.now c.args.parser.now P M c.args.at st c.args.x.now c.in-Some._i c.requires.here c.in-ok-no-longer.ensures
       (sym c.in-Some.ensures),
   refl,
 )

@@ -6,9 +6,9 @@ pub returns-in-Some : goal.returns-in-Some
 returns-in-Some c = grew_same _ _ _ _ _ _ c.requires c.in-Some.ensures.0 c.in-Some.ensures.1
 
 pub returns : goal.returns
-returns c = grew_more _ _ _ _ _ _ c.requires.unranked c.if-count-table.false c.in-default.ensures c.append.ensures.after c.append.ensures.indexed
+returns c = grew_more _ _ _ _ _ _ c.requires.unranked c.if-count-table.false c.in_default.ensures c.append.ensures.after c.append.ensures.indexed
 
 pub returns-then-count-table : goal.returns-then-count-table
 returns-then-count-table c =
-    full_now c.args.index.now c.args.table.now c.args.count c.args.new c.args.old c.requires c.in-default.ensures
+    full_now c.args.index.now c.args.table.now c.args.count c.args.new c.args.old c.requires c.in_default.ensures
     (elim c.then-count-table.either [ inl x ↦ omega arith | inr y ↦ omega arith ])

@@ -1,7 +1,7 @@
 use Rattle.std.proofs.Common.{ℕ, ◌+◌, pos, sym, ◌∙◌, subst}
 use Rattle.compare.proofs.Ranking.{Sofar, judged_held, sofar_none, sofar_some, sofar_done}
 use Rattle.compare.proofs.comparing.unmatched.Goals as goal
-use Rattle.compare.proofs.comparing.unmatched.Goals.{in-Some+else-outlasts, in-default}
+use Rattle.compare.proofs.comparing.unmatched.Goals.{in-Some+else-outlasts, in_default}
 
 pub returns-then-outlasts : goal.returns-then-outlasts
 returns-then-outlasts c =
@@ -9,15 +9,15 @@ returns-then-outlasts c =
     c.loop-b-test.true c.in-Some.ensures c.if-outlasts.ensures
 
 pub loop-b-preserved : goal.loop-b-preserved
-loop-b-preserved c = elim c.match-partner-rank.branch [
+loop-b-preserved c = elim c.match-partner_rank.branch [
   | in-Some+else-outlasts w ↦
       subst (λ (y : ℕ). Sofar c.args.table.now c.args.count c.args.back c.args.a c.args.others.now (c.loop-b.b-index + 1) y c.args.limit) (sym (w.last-is ∙ w.max-last.ensures))
       (sofar_some c.args.table.now c.args.count c.args.back c.args.a c.args.others.now c.loop-b.b-index c.loop-b.last c.args.limit w.in-Some.rank (record { action = pos 0; target = 0 })
-      c.requires.0.apart c.requires.1 c.loop-b-test.true w.in-Some.ensures w.if-outlasts.ensures c.loop-b.invariant)
-  | in-default w ↦
+      c.requires.indexed.apart c.requires.modest c.loop-b-test.true w.in-Some.ensures w.if-outlasts.ensures c.loop-b.invariant)
+  | in_default w ↦
       subst (λ (y : ℕ). Sofar c.args.table.now c.args.count c.args.back c.args.a c.args.others.now (c.loop-b.b-index + 1) y c.args.limit) (sym w.last-is)
       (sofar_none c.args.table.now c.args.count c.args.back c.args.a c.args.others.now c.loop-b.b-index c.loop-b.last c.args.limit (record { action = pos 0; target = 0 })
-      c.loop-b-test.true w.in-default.ensures c.loop-b.invariant)
+      c.loop-b-test.true w.in_default.ensures c.loop-b.invariant)
 ]
 
 pub returns : goal.returns

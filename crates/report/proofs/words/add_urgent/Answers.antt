@@ -13,13 +13,13 @@ shown z out more f e = e ∙ ap (λ (x : ℤ). out ++ (ascii " " ++ action_text 
 pub loop-action-preserved : goal.loop-action-preserved
 loop-action-preserved c =
     let f : SFits w8 c.in-Some-action.action = search rules in
-    spaced_on action_text (coming c.loop-action.action-iterator) (coming c.next-in-loop-action.new.self) c.in-Some-action.action (string_bytes c.loop-action.out) (string_bytes c.add-action-in-loop-action.new.out) _ c.in-Some-action.ensures.steps (shown c.in-Some-action.action (string_bytes c.loop-action.out) (string_bytes c.add-action-in-loop-action.new.out) f c.in-ok-add-action-2.ensures) c.loop-action.invariant
+    spaced_on action_text (coming c.loop-action.action-iterator) (coming c.next-in-loop-action.new.self) c.in-Some-action.action (string_bytes c.loop-action.out) (string_bytes c.add_action-in-loop-action.new.out) _ c.in-Some-action.ensures.steps (shown c.in-Some-action.action (string_bytes c.loop-action.out) (string_bytes c.add_action-in-loop-action.new.out) f c.in_ok-add_action-2.ensures) c.loop-action.invariant
 
 pub returns : goal.returns
 returns c =
     let f : SFits w8 c.in-Some.first = search rules in
-    let b : coming c.into-iter-action-iterator.result ≡ coming c.next.new.self = ap coming c.into-iter-action-iterator.ensures.into-iter-gives in
-    listed_first action_text (members c.args.urgent) (coming c.into-iter-action-iterator.result) c.in-Some.first (string_bytes c.args.out.now) (string_bytes c.add-action.new.out) (string_bytes c.loop-action.out)
+    let b : coming c.into_iter-action-iterator.result ≡ coming c.next.new.self = ap coming c.into_iter-action-iterator.ensures.into_iter_gives in
+    listed_first action_text (members c.args.urgent) (coming c.into_iter-action-iterator.result) c.in-Some.first (string_bytes c.args.out.now) (string_bytes c.add_action.new.out) (string_bytes c.loop-action.out)
     (sym c.iter-rest.ensures ∙ c.in-Some.ensures.steps ∙ ap (λ (w : List ℤ). c.in-Some.first ∷ w) (sym b))
-    (shown c.in-Some.first (string_bytes c.args.out.now) (string_bytes c.add-action.new.out) f c.in-ok-add-action.ensures)
+    (shown c.in-Some.first (string_bytes c.args.out.now) (string_bytes c.add_action.new.out) f c.in_ok-add_action.ensures)
     (spaced_end action_text (coming c.loop-action.action-iterator) (string_bytes c.loop-action.out) _ c.in-None.ensures.steps.0 c.loop-action.invariant)

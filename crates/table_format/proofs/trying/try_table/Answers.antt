@@ -17,12 +17,12 @@ unfolding fault
 returns-in_err-count c =
     let p = err_from_is_err_and c.from_residual.result c.from_residual.ensures.1 in
     let b = c.args.bytes.now in
-    record { told = rw (p.1, p.2) (some_then (head_fault b) (modules_fault b (pair b 1) 3) _ c.in_err-count.ensures); law = keeps b (λ i. omega (arith, c.type-inv.bytes i)); worked = worked }
+    record { told = rw (p.1, p.2) (some_then (head_fault b) (modules_fault b (pair b 1) 3) _ c.in_err-count.ensures); law = keeps b (λ i. omega (arith, c.type_inv.bytes i)); worked = worked }
 
 pub returns-in_err-try_modules : goal.returns-in_err-try_modules
 returns-in_err-try_modules c =
     let p = err_from_is_err_and c.from_residual-in_err-try_modules.result c.from_residual-in_err-try_modules.ensures.1 in
-    record { told = rw (p.1, p.2) (whole c.args.bytes.now c.in_ok-count.count (Some c.in_err-try_modules.field-0.0) c.in_ok-count.ensures.1 c.in_ok-count.ensures.0 c.in_err-try_modules.ensures); law = keeps c.args.bytes.now (λ i. omega (arith, c.type-inv.bytes i)); worked = worked }
+    record { told = rw (p.1, p.2) (whole c.args.bytes.now c.in_ok-count.count (Some c.in_err-try_modules.field-0.0) c.in_ok-count.ensures.1 c.in_ok-count.ensures.0 c.in_err-try_modules.ensures); law = keeps c.args.bytes.now (λ i. omega (arith, c.type_inv.bytes i)); worked = worked }
 
 pub returns : goal.returns
-returns c = record { told = whole c.args.bytes.now c.in_ok-count.count None c.in_ok-count.ensures.1 c.in_ok-count.ensures.0 c.in_ok-try_modules.ensures; law = keeps c.args.bytes.now (λ i. omega (arith, c.type-inv.bytes i)); worked = worked }
+returns c = record { told = whole c.args.bytes.now c.in_ok-count.count None c.in_ok-count.ensures.1 c.in_ok-count.ensures.0 c.in_ok-try_modules.ensures; law = keeps c.args.bytes.now (λ i. omega (arith, c.type_inv.bytes i)); worked = worked }

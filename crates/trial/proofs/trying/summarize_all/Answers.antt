@@ -8,5 +8,5 @@ loop-n-init c = (refl, first_round c.args.places.now (replicate 256 unknown) (bl
 
 pub loop-n-preserved : goal.loop-n-preserved
 loop-n-preserved c =
-    let full : length c.follow-on-summaries.result ≡ 256 = search rules in
-    (full, next_round c.args.places.now c.loop-n.-n c.loop-n.summaries c.follow-on-summaries.result c.requires.within c.loop-n.invariant.1 c.follow-on-summaries.ensures)
+    let full : length c.follow_on-summaries.result ≡ 256 = search rules in
+    (full, next_round c.args.places.now c.loop-n._n c.loop-n.summaries c.follow_on-summaries.result c.requires.within c.loop-n.invariant.1 c.follow_on-summaries.ensures)

@@ -4,14 +4,14 @@ use Rattle.catalogue.specs.Catalogue.{Module, start_of}
 use Rattle.book.proofs.Answering.{none_found, its_start_small, its_start}
 use Rattle.book.proofs.questions.BookCatalogue.start.Goals as goal
 
-pub returns-in-err-equations : goal.returns-in-err-equations
-returns-in-err-equations c = c.from-residual.ensures ∙ ap (λ (o : Option Module). option_map start_of o) (sym (none_found c.args.self.now.places.now c.args.self.now.modules.now c.args.part c.in-err-equations.ensures))
+pub returns-in_err-equations : goal.returns-in_err-equations
+returns-in_err-equations c = c.from_residual.ensures ∙ ap (λ (o : Option Module). option_map start_of o) (sym (none_found c.args.self.now.places.now c.args.self.now.modules.now c.args.part c.in_err-equations.ensures))
 
-pub overflow-cast-result : goal.overflow-cast-result
-overflow-cast-result c = let n = its_start_small c.args.self.now.places.now c.args.self.now.modules.now c.args.part c.in-ok-equations.equations c.in-ok-equations.ensures in omega arith
+pub overflow_cast-result : goal.overflow_cast-result
+overflow_cast-result c = let n = its_start_small c.args.self.now.places.now c.args.self.now.modules.now c.args.part c.in_ok-equations.equations c.in_ok-equations.ensures in omega arith
 
-pub overflow-mul-result : goal.overflow-mul-result
-overflow-mul-result c = let n = its_start_small c.args.self.now.places.now c.args.self.now.modules.now c.args.part c.in-ok-equations.equations c.in-ok-equations.ensures in omega arith
+pub overflow_mul-result : goal.overflow_mul-result
+overflow_mul-result c = let n = its_start_small c.args.self.now.places.now c.args.self.now.modules.now c.args.part c.in_ok-equations.equations c.in_ok-equations.ensures in omega arith
 
 pub returns : goal.returns
-returns c = its_start c.args.self.now.places.now c.args.self.now.modules.now c.args.part c.in-ok-equations.equations c.in-ok-equations.ensures
+returns c = its_start c.args.self.now.places.now c.args.self.now.modules.now c.args.part c.in_ok-equations.equations c.in_ok-equations.ensures

@@ -3,13 +3,13 @@ use Rattle.catalogue.specs.Catalogue.{State}
 use Rattle.book.proofs.Answering.{nowhere_found, its_state, its_table}
 use Rattle.book.proofs.questions.BookCatalogue.tick.Goals as goal
 
-pub returns-in-err-equations : goal.returns-in-err-equations
-returns-in-err-equations c = c.from-residual.ensures ∙ ap (λ (x : State). x.tick) (sym (nowhere_found c.args.self.now.places.now c.args.self.now.modules.now c.args.part c.in-err-equations.ensures c.args.code))
+pub returns-in_err-equations : goal.returns-in_err-equations
+returns-in_err-equations c = c.from_residual.ensures ∙ ap (λ (x : State). x.tick) (sym (nowhere_found c.args.self.now.places.now c.args.self.now.modules.now c.args.part c.in_err-equations.ensures c.args.code))
 
-pub tick-in-requires : goal.tick-in-requires
-tick-in-requires c =
+pub tick_in-requires : goal.tick_in-requires
+tick_in-requires c =
     let rows : length c.args.self.now.table ≡ 64 = search rules in
-    its_table c.args.self.now.places.now c.args.self.now.modules.now c.args.part c.in-ok-equations.equations c.in-ok-equations.ensures c.args.self.now.table c.args.self.now.verdict rows c.args.self.now.tried c.args.self.now.depths c.args.self.now.counts
+    its_table c.args.self.now.places.now c.args.self.now.modules.now c.args.part c.in_ok-equations.equations c.in_ok-equations.ensures c.args.self.now.table c.args.self.now.verdict rows c.args.self.now.tried c.args.self.now.depths c.args.self.now.counts
 
 pub returns : goal.returns
-returns c = c.tick_in.ensures ∙ ap (λ (x : State). x.tick) (its_state c.args.self.now.places.now c.args.self.now.modules.now c.args.part c.in-ok-equations.equations c.in-ok-equations.ensures c.args.code)
+returns c = c.tick_in.ensures ∙ ap (λ (x : State). x.tick) (its_state c.args.self.now.places.now c.args.self.now.modules.now c.args.part c.in_ok-equations.equations c.in_ok-equations.ensures c.args.code)

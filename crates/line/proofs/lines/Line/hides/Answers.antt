@@ -10,10 +10,10 @@ port a p f e = e ∙ ap nat_abs (to_z-of_z w8 a f)
 
 pub returns-then-port-gt31 : goal.returns-then-port-gt31
 returns-then-port-gt31 c =
-    let is = port c.args.action c.unsigned-abs-port.result c.ranges.action c.unsigned-abs-port.ensures.value in
+    let is = port c.args.action c.unsigned_abs-port.result c.ranges.action c.unsigned_abs-port.ensures.value in
     sym (has_far c.args.self.now.hidden (pos (nat_abs c.args.action)) (omega (arith, is, c.if-port-gt31.true)))
 
 pub returns : goal.returns
 returns c =
-    let is = port c.args.action c.unsigned-abs-port.result c.ranges.action c.unsigned-abs-port.ensures.value in
-    c.contains.ensures ∙ ap (has c.args.self.now.hidden) (to_z_pos w8 c.unsigned-abs-port.result (omega (arith, c.if-port-gt31.false)) ∙ ap pos is)
+    let is = port c.args.action c.unsigned_abs-port.result c.ranges.action c.unsigned_abs-port.ensures.value in
+    c.contains.ensures ∙ ap (has c.args.self.now.hidden) (to_z_pos w8 c.unsigned_abs-port.result (omega (arith, c.if-port-gt31.false)) ∙ ap pos is)

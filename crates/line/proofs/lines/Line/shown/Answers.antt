@@ -35,6 +35,6 @@ returns c =
     let line = line_of c.args.self.now in
     let s = c.args.set in
     let out = c.loop-action.out in
-    let start : coming c.into-iter-action-iterator.result ≡ members s = ap coming c.into-iter-action-iterator.ensures.into-iter-gives ∙ c.iter-action-items.ensures in
+    let start : coming c.into_iter-action-iterator.result ≡ members s = ap coming c.into_iter-action-iterator.ensures.into_iter_gives ∙ c.iter-action-items.ensures in
     lets_all line s c.empty-out.result out c.empty-out.ensures
     (λ a. ap (λ xs. lets line out xs a) (sym c.in-None.ensures.steps.0) ∙ c.loop-action.invariant a ∙ ap (λ xs. lets line c.empty-out.result xs a) start)

@@ -12,19 +12,19 @@ returns-then-state-self g c = stands_not c.args.self.now (g.C.Catalogue.meaning 
 pub loop-i-init : goal.loop-i-init
 loop-i-init g c = tt
 
-pub returns-then-not-has-code : goal.returns-then-not-has-code
-returns-then-not-has-code g c =
+pub returns-then-not-has_code : goal.returns-then-not-has_code
+returns-then-not-has_code g c =
     let ms : Catalogue = g.C.Catalogue.meaning c.args.catalogue.now in
     let line = line_of c.args.self.now in
     let at = code_is c.args.self.now ms c.loop-i.i c.index-self-i.result c.loop-i-test.true c.args.state.now in
-    stands_by c.args.self.now ms c.args.state.now c.if-state-self.false false (one_fails c.args.self.now (has_code ms line c.args.state.now) c.loop-i.i c.loop-i-test.true (at ∙ sym c.has-code.ensures ∙ c.if-not-has-code.true))
+    stands_by c.args.self.now ms c.args.state.now c.if-state-self.false false (one_fails c.args.self.now (has_code ms line c.args.state.now) c.loop-i.i c.loop-i-test.true (at ∙ sym c.has_code.ensures ∙ c.if-not-has_code.true))
 
 pub loop-i-preserved : goal.loop-i-preserved
 loop-i-preserved g c =
     let ms : Catalogue = g.C.Catalogue.meaning c.args.catalogue.now in
     let line = line_of c.args.self.now in
     let at = code_is c.args.self.now ms c.loop-i.i c.index-self-i.result c.loop-i-test.true c.args.state.now in
-    every_more (has_code ms line c.args.state.now) c.loop-i.i c.loop-i.invariant (at ∙ sym c.has-code.ensures ∙ c.if-not-has-code.false)
+    every_more (has_code ms line c.args.state.now) c.loop-i.i c.loop-i.invariant (at ∙ sym c.has_code.ensures ∙ c.if-not-has_code.false)
 
 pub returns : goal.returns
 returns g c =

@@ -10,32 +10,32 @@ use Rattle.line.specs.Meaning.{line_of}
 use Rattle.line.proofs.Timing.{ticks_calm, ticks_not, stands_wide, not_known, not_a_state, told, truly}
 use Rattle.line.proofs.lines.Line.time.Goals as goal
 
-pub returns-then-not-is-known : goal.returns-then-not-is-known
-returns-then-not-is-known g c =
+pub returns-then-not-is_known : goal.returns-then-not-is_known
+returns-then-not-is_known g c =
     let ms : Catalogue = g.C.Catalogue.meaning c.args.catalogue.now in
-    record { answer = not_known c.args.self.now ms c.args.state.now c.if-not-is-known.ensures; tells = tt; worked = worked }
+    record { answer = not_known c.args.self.now ms c.args.state.now c.if-not-is_known.ensures; tells = tt; worked = worked }
 
 pub returns-then-not-stands : goal.returns-then-not-stands
 returns-then-not-stands g c =
     let ms : Catalogue = g.C.Catalogue.meaning c.args.catalogue.now in
-    record { answer = not_a_state c.args.self.now ms c.args.state.now c.if-not-is-known.ensures c.if-not-stands.ensures; tells = tt; worked = worked }
+    record { answer = not_a_state c.args.self.now ms c.args.state.now c.if-not-is_known.ensures c.if-not-stands.ensures; tells = tt; worked = worked }
 
 pub gathered-requires : goal.gathered-requires
 gathered-requires g c = stands_wide c.args.self.now (g.C.Catalogue.meaning c.args.catalogue.now) c.args.state.now c.if-not-stands.ensures
 
-pub all-tick-ticks-requires : goal.all-tick-ticks-requires
-all-tick-ticks-requires g c = stands_wide c.args.self.now (g.C.Catalogue.meaning c.args.catalogue.now) c.args.state.now c.if-not-stands.ensures
+pub all_tick-ticks-requires : goal.all_tick-ticks-requires
+all_tick-ticks-requires g c = stands_wide c.args.self.now (g.C.Catalogue.meaning c.args.catalogue.now) c.args.state.now c.if-not-stands.ensures
 
 pub returns-then-not-contains : goal.returns-then-not-contains
 returns-then-not-contains g c =
     let ms : Catalogue = g.C.Catalogue.meaning c.args.catalogue.now in
     let l = c.args.self.now in
     let s = c.args.state.now in
-    let known = c.if-not-is-known.ensures in
+    let known = c.if-not-is_known.ensures in
     let state = c.if-not-stands.ensures in
     let urgent = urgents_is ms (line_of l) s c.gathered.result c.shown-urgent.result c.gathered.ensures c.shown-urgent.ensures in
     let every-tick = every (length (line_of l).slots) (slot_ticks ms (line_of l) s) in
-    let ticking = c.all-tick-ticks.ensures ∙ ticks_calm every-tick (has c.shown-urgent.result internal) (sym c.contains.ensures ∙ c.if-not-contains.true) in
+    let ticking = c.all_tick-ticks.ensures ∙ ticks_calm every-tick (has c.shown-urgent.result internal) (sym c.contains.ensures ∙ c.if-not-contains.true) in
     record { answer = told l ms s known state _ urgent ticking; tells = truly l ms s known state _ urgent ticking; worked = worked }
 
 pub returns-else-not-contains : goal.returns-else-not-contains
@@ -43,7 +43,7 @@ returns-else-not-contains g c =
     let ms : Catalogue = g.C.Catalogue.meaning c.args.catalogue.now in
     let l = c.args.self.now in
     let s = c.args.state.now in
-    let known = c.if-not-is-known.ensures in
+    let known = c.if-not-is_known.ensures in
     let state = c.if-not-stands.ensures in
     let urgent = urgents_is ms (line_of l) s c.gathered.result c.shown-urgent.result c.gathered.ensures c.shown-urgent.ensures in
     let every-tick = every (length (line_of l).slots) (slot_ticks ms (line_of l) s) in

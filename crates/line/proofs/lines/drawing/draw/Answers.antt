@@ -17,45 +17,45 @@ use Rattle.line.proofs.lines.drawing.draw.Goals as goal
 abbrev blank : SlotPlan
 blank = record { holds = 0; entries = record { ref_ptr = (0, 0); now = [] } }
 
-pub returns-then-is-empty : goal.returns-then-is-empty
-returns-then-is-empty g c =
+pub returns-then-is_empty : goal.returns-then-is_empty
+returns-then-is_empty g c =
     let ms : Catalogue = g.C.Catalogue.meaning c.args.catalogue.now in
     let ps = c.args.slots.now in
     let hidden = c.args.hidden.now in
     let long = plans_long ps in
     record {
-      answer = no_count ms (plans ps) hidden (elim c.then-is-empty.either [ inl e ↦ inl (long ∙ eqb-true (length ps) 0 (sym c.is-empty.ensures ∙ e)) | inr l ↦ inr (omega (arith, l.1)) ]);
+      answer = no_count ms (plans ps) hidden (elim c.then-is_empty.either [ inl e ↦ inl (long ∙ eqb-true (length ps) 0 (sym c.is_empty.ensures ∙ e)) | inr l ↦ inr (omega (arith, l.1)) ]);
       law = draws ms (plans ps) hidden;
       drawn = tt;
       promise = tt;
       possible = can_be_met;
     }
 
-pub returns-in-default : goal.returns-in-default
-returns-in-default g c =
+pub returns-in_default : goal.returns-in_default
+returns-in_default g c =
     let ms : Catalogue = g.C.Catalogue.meaning c.args.catalogue.now in
     let ps = c.args.slots.now in
     let hidden = c.args.hidden.now in
     let long = plans_long ps in
-    let some = not_none (length ps) (sym c.is-empty.ensures ∙ c.if-is-empty.false) in
-    let few = c.if-slots-gt-MOST-SLOTS.false in
-    record { answer = no_port ms (plans ps) hidden (omega arith) (omega arith) c.in-default.ensures; law = draws ms (plans ps) hidden; drawn = tt; promise = tt; possible = can_be_met }
+    let some = not_none (length ps) (sym c.is_empty.ensures ∙ c.if-is_empty.false) in
+    let few = c.if-slots-gt-MOST_SLOTS.false in
+    record { answer = no_port ms (plans ps) hidden (omega arith) (omega arith) c.in_default.ensures; law = draws ms (plans ps) hidden; drawn = tt; promise = tt; possible = can_be_met }
 
 pub loop-i-init : goal.loop-i-init
 loop-i-init g c = no_slots (g.C.Catalogue.meaning c.args.catalogue.now) (plans c.args.slots.now) _ refl
 
-pub returns-in-err-held : goal.returns-in-err-held
-returns-in-err-held g c =
+pub returns-in_err-held : goal.returns-in_err-held
+returns-in_err-held g c =
     let ms : Catalogue = g.C.Catalogue.meaning c.args.catalogue.now in
     let ps = c.args.slots.now in
     let hidden = c.args.hidden.now in
     let long = plans_long ps in
-    let some = not_none (length ps) (sym c.is-empty.ensures ∙ c.if-is-empty.false) in
-    let few = c.if-slots-gt-MOST-SLOTS.false in
+    let some = not_none (length ps) (sym c.is_empty.ensures ∙ c.if-is_empty.false) in
+    let few = c.if-slots-gt-MOST_SLOTS.false in
     let i = c.loop-i.i in
-    let p = err_from_is_err_and c.from-residual.result c.from-residual.ensures.1 in
-    let e = c.in-err-held.field-0.0 in
-    let wrong = slot_wrong ms (plans ps) i c.loop-i.held c.loop-i.invariant (omega arith) (omega (arith, c.loop-i-test.true)) e (subst (λ x. Fitting ms x (Err e)) (sym (plan_at ps i blank)) c.in-err-held.ensures) in
+    let p = err_from_is_err_and c.from_residual.result c.from_residual.ensures.1 in
+    let e = c.in_err-held.field-0.0 in
+    let wrong = slot_wrong ms (plans ps) i c.loop-i.held c.loop-i.invariant (omega arith) (omega (arith, c.loop-i-test.true)) e (subst (λ x. Fitting ms x (Err e)) (sym (plan_at ps i blank)) c.in_err-held.ensures) in
     rw (p.1, p.2) (record { answer = by_slots ms (plans ps) hidden (omega arith) (omega arith) c.in-Some.ensures.0 ∙ wrong; law = draws ms (plans ps) hidden; drawn = tt; promise = tt; possible = can_be_met })
 
 pub loop-i-preserved : goal.loop-i-preserved
@@ -64,17 +64,17 @@ loop-i-preserved g c =
     let ps = c.args.slots.now in
     let hidden = c.args.hidden.now in
     let long = plans_long ps in
-    let few = c.if-slots-gt-MOST-SLOTS.false in
+    let few = c.if-slots-gt-MOST_SLOTS.false in
     let i = c.loop-i.i in
-    let x = c.in-ok-held.field-0 in
-    slot_more ms (plans ps) i c.loop-i.held c.loop-i.invariant (omega arith) (omega (arith, c.loop-i-test.true)) x (subst (λ y. Fitting ms y (Ok x)) (sym (plan_at ps i blank)) c.in-ok-held.ensures)
+    let x = c.in_ok-held.field-0 in
+    slot_more ms (plans ps) i c.loop-i.held c.loop-i.invariant (omega arith) (omega (arith, c.loop-i-test.true)) x (subst (λ y. Fitting ms y (Ok x)) (sym (plan_at ps i blank)) c.in_ok-held.ensures)
 
-pub invariant-of-result : goal.invariant-of-result
-invariant-of-result g c =
+pub invariant_of-result : goal.invariant_of-result
+invariant_of-result g c =
     let ps = c.args.slots.now in
     let good = c.in-Some.ensures in
-    let some = not_none (length ps) (sym c.is-empty.ensures ∙ c.if-is-empty.false) in
-    let few = c.if-slots-gt-MOST-SLOTS.false in
+    let some = not_none (length ps) (sym c.is_empty.ensures ∙ c.if-is_empty.false) in
+    let few = c.if-slots-gt-MOST_SLOTS.false in
     let open' : has c.in-Some.hidden (pos 0) ≡ false = subst (λ (s : ActionSet). has s (pos 0) ≡ false) (sym good.1) (ports_open c.args.hidden.now good.0) in
     (c.loop-i.invariant.whole, (some, (few, (open', tt))))
 
@@ -84,8 +84,8 @@ returns g c =
     let ps = c.args.slots.now in
     let hidden = c.args.hidden.now in
     let long = plans_long ps in
-    let some = not_none (length ps) (sym c.is-empty.ensures ∙ c.if-is-empty.false) in
-    let few = c.if-slots-gt-MOST-SLOTS.false in
+    let some = not_none (length ps) (sym c.is_empty.ensures ∙ c.if-is_empty.false) in
+    let few = c.if-slots-gt-MOST_SLOTS.false in
     let good = c.in-Some.ensures in
     let at_end : c.loop-i.i ≡ length ps = omega (arith, c.loop-i.auto.i-end, c.loop-i-test.false) in
     let all = slot_all ms (plans ps) c.loop-i.i c.loop-i.held c.loop-i.invariant (omega arith) in

@@ -17,10 +17,10 @@ returns-then-part-len c =
     let t = c.args.self.now in
     record { at = sym (ap (state_offset_in (written t) c.args.code) (module_none (written t) c.args.part (omega (arith, count_listed t)))); whole = tt }
 
-pub pair-at-codes-requires : goal.pair-at-codes-requires
-pair-at-codes-requires c =
+pub pair_at-codes-requires : goal.pair_at-codes-requires
+pair_at-codes-requires c =
     let f = (placed_in c.args.self.now c.args.part c.index-place.result.now (omega arith) c.index-place.ensures).1 in
-    omega (arith, f.at_is, f.fine.count_in, f.fine.inside, ap length c.as-slice.ensures.value)
+    omega (arith, f.at_is, f.fine.count_in, f.fine.inside, ap length c.as_slice.ensures.value)
 
 pub returns-then-code-codes : goal.returns-then-code-codes
 returns-then-code-codes c =
@@ -28,7 +28,7 @@ returns-then-code-codes c =
     let b = written t in
     let i = at-module b c.args.part in
     let f = placed_in t c.args.part c.index-place.result.now (omega arith) c.index-place.ensures in
-    let n : c.pair-at-codes.result ≡ codes_at b i = c.pair-at-codes.ensures ∙ ap (λ (z : List ℕ). pair z (c.index-place.result.now.at + 2)) c.as-slice.ensures.value ∙ ap (codes_at b) f.1.at_is in
+    let n : c.pair_at-codes.result ≡ codes_at b i = c.pair_at-codes.ensures ∙ ap (λ (z : List ℕ). pair z (c.index-place.result.now.at + 2)) c.as_slice.ensures.value ∙ ap (codes_at b) f.1.at_is in
     record { at = sym (state_none b c.args.part c.args.code i (module_some b c.args.part f.0) (omega arith)); whole = tt }
 
 pub index-s-requires : goal.index-s-requires
@@ -36,7 +36,7 @@ index-s-requires c =
     let t = c.args.self.now in
     let b = written t in
     let f = placed_in t c.args.part c.index-place.result.now (omega arith) c.index-place.ensures in
-    let n : c.pair-at-codes.result ≡ codes_at b (at-module b c.args.part) = c.pair-at-codes.ensures ∙ ap (λ (z : List ℕ). pair z (c.index-place.result.now.at + 2)) c.as-slice.ensures.value ∙ ap (codes_at b) f.1.at_is in
+    let n : c.pair_at-codes.result ≡ codes_at b (at-module b c.args.part) = c.pair_at-codes.ensures ∙ ap (λ (z : List ℕ). pair z (c.index-place.result.now.at + 2)) c.as_slice.ensures.value ∙ ap (codes_at b) f.1.at_is in
     omega (arith, f.1.there c.args.code (omega arith), t.states.ok.0)
 
 pub returns : goal.returns
@@ -45,7 +45,7 @@ returns c =
     let b = written t in
     let i = at-module b c.args.part in
     let f = placed_in t c.args.part c.index-place.result.now (omega arith) c.index-place.ensures in
-    let n : c.pair-at-codes.result ≡ codes_at b i = c.pair-at-codes.ensures ∙ ap (λ (z : List ℕ). pair z (c.index-place.result.now.at + 2)) c.as-slice.ensures.value ∙ ap (codes_at b) f.1.at_is in
+    let n : c.pair_at-codes.result ≡ codes_at b i = c.pair_at-codes.ensures ∙ ap (λ (z : List ℕ). pair z (c.index-place.result.now.at + 2)) c.as_slice.ensures.value ∙ ap (codes_at b) f.1.at_is in
     let k : c.args.code < codes_at b i = omega arith in
     let r = get_or_read_under (vec_items t.states) (c.index-place.result.now.first + c.args.code) (length (vec_items t.states)) c.index-s.result.now 0 c.index-s.ensures (f.1.there c.args.code k) refl in
     let e = ap Some (r ∙ f.1.listed c.args.code k) ∙ sym (state_some b c.args.part c.args.code i (module_some b c.args.part f.0) k) in

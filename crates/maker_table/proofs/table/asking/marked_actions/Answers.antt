@@ -16,10 +16,10 @@ loop-i-preserved c =
     let next = c.args.k + 4 * (i + 1) in
     elim c.if-bytes-at-eq1.branch [
       | then-bytes-at-eq1 w ↦ (
-          let f : SFits w8 w.action-of.result = search rules in
+          let f : SFits w8 w.action_of.result = search rules in
           subst (λ (s : ActionSet). Gathering s (move_records b j next) all) (sym w.set-is)
           (gather_marked b all c.loop-i.set (c.args.count - i) j (c.args.k + 4 * i) next (omega arith) (omega arith) c.loop-i.invariant w.insert.new.self w.if-bytes-at-eq1.true
-          (λ a. w.insert.ensures a ∙ ap (λ (x : ℤ). has c.loop-i.set a || (is_action x && same x a)) (to_z-of_z f ∙ w.action-of.ensures))))
+          (λ a. w.insert.ensures a ∙ ap (λ (x : ℤ). has c.loop-i.set a || (is_action x && same x a)) (to_z-of_z f ∙ w.action_of.ensures))))
       | else-bytes-at-eq1 w ↦ subst (λ (s : ActionSet). Gathering s (move_records b j next) all) (sym w.set-is)
           (gather_unmarked b all c.loop-i.set (c.args.count - i) j (c.args.k + 4 * i) next (omega arith) (omega arith) c.loop-i.invariant w.if-bytes-at-eq1.false)
     ]

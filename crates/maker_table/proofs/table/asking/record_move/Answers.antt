@@ -10,6 +10,6 @@ pub returns : goal.returns
 returns c =
     let b = c.args.bytes.now in
     let at = c.args.s + 5 + 4 * c.args.number in
-    let f : SFits w8 c.action-of-action.result = search rules in
-    some_move (to_z w8 (of_z w8 c.action-of-action.result)) (byte_action (byte b at)) c.pair-at-target.result (pair b (at + 2)) (to_z-of_z f ∙ c.action-of-action.ensures) c.pair-at-target.ensures
+    let f : SFits w8 c.action_of-action.result = search rules in
+    some_move (to_z w8 (of_z w8 c.action_of-action.result)) (byte_action (byte b at)) c.pair_at-target.result (pair b (at + 2)) (to_z-of_z f ∙ c.action_of-action.ensures) c.pair_at-target.ensures
     ∙ sym (nth_move b (byte b (c.args.s + 4)) (c.args.s + 5) c.args.number (omega arith))

@@ -4,10 +4,10 @@ use Rattle.table_format.specs.Reading.{codes_at}
 use Rattle.maker_table.proofs.Lookup.{told_codes}
 use Rattle.maker_table.proofs.table.asking.TableCatalogue.codes.Goals as goal
 
-pub returns-in-default : goal.returns-in-default
-returns-in-default c = sym (told_codes (written c.args.self.now) c.args.part None c.in-default.ensures.at)
+pub returns-in_default : goal.returns-in_default
+returns-in_default c = sym (told_codes (written c.args.self.now) c.args.part None c.in_default.ensures.at)
 
 pub returns : goal.returns
 returns c =
     let b = written c.args.self.now in
-    ap Some (c.pair_at.ensures ∙ ap (λ (z : List ℕ). codes_at z c.in-Some.at) c.as-slice.ensures.value) ∙ sym (told_codes b c.args.part (Some c.in-Some.at) c.in-Some.ensures.at)
+    ap Some (c.pair_at.ensures ∙ ap (λ (z : List ℕ). codes_at z c.in-Some.at) c.as_slice.ensures.value) ∙ sym (told_codes b c.args.part (Some c.in-Some.at) c.in-Some.ensures.at)
