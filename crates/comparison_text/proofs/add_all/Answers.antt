@@ -7,8 +7,8 @@ use Rattle.comparison_text.proofs.add_all.Goals as goal
 pub loop-new-preserved : goal.loop-new-preserved
 loop-new-preserved g c =
     let ms : Catalogue = g.C.Catalogue.meaning c.args.catalogue.now in
-    numbered_on (λ new (m : Module). comparison_lines ms (length c.args.table.now) new) ms c.loop-new.new absent (string_bytes c.loop-new.out) (string_bytes c.add-comparisons.new.out) _ (omega (arith, c.modules-count.ensures))
-    (c.in-ok-add-comparisons.ensures ∙ ap (λ n. string_bytes c.loop-new.out ++ comparison_lines ms n c.loop-new.new) c.loop-new.auto.table)
+    numbered_on (λ new (m : Module). comparison_lines ms (length c.args.table.now) new) ms c.loop-new.new absent (string_bytes c.loop-new.out) (string_bytes c.add_comparisons.new.out) _ (omega (arith, c.modules-count.ensures))
+    (c.in_ok-add_comparisons.ensures ∙ ap (λ n. string_bytes c.loop-new.out ++ comparison_lines ms n c.loop-new.new) c.loop-new.auto.table)
     c.loop-new.invariant
 
 pub returns : goal.returns

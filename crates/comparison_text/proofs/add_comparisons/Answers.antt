@@ -10,8 +10,8 @@ use Rattle.comparison_text.proofs.add_comparisons.Goals as goal
 pub loop-old-preserved : goal.loop-old-preserved
 loop-old-preserved g c =
     let ms : Catalogue = g.C.Catalogue.meaning c.args.catalogue.now in
-    numbered_on (λ old (m : Module). comparison_line ms (length c.args.table.now) c.args.new old) ms c.loop-old.old absent (string_bytes c.loop-old.out) (string_bytes c.add-answer.new.out) _ (omega (arith, c.modules-count.ensures))
-    (c.in-ok-add-answer.ensures ∙ ap (λ (r : Result Compared CompareFault). string_bytes c.loop-old.out ++ answer_line c.args.new c.loop-old.old r) (c.compare-answer.ensures.answer ∙ ap (λ n. answer ms c.args.new c.loop-old.old n) c.loop-old.auto.table))
+    numbered_on (λ old (m : Module). comparison_line ms (length c.args.table.now) c.args.new old) ms c.loop-old.old absent (string_bytes c.loop-old.out) (string_bytes c.add_answer.new.out) _ (omega (arith, c.modules-count.ensures))
+    (c.in_ok-add_answer.ensures ∙ ap (λ (r : Result Compared CompareFault). string_bytes c.loop-old.out ++ answer_line c.args.new c.loop-old.old r) (c.compare-answer.ensures.answer ∙ ap (λ n. answer ms c.args.new c.loop-old.old n) c.loop-old.auto.table))
     c.loop-old.invariant
 
 pub returns : goal.returns

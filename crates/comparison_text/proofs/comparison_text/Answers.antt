@@ -8,5 +8,5 @@ pub returns-in-Ok : goal.returns-in-Ok
 unfolding comparison
 returns-in-Ok g c =
     let ms : Catalogue = g.C.Catalogue.meaning c.args.catalogue.now in
-    first_text (string_bytes c.new-out.result) (string_bytes c.add-comparison.new.out) (comparison_within ms (length c.deref-mut.result.now) c.args.new c.args.old) (comparison ms c.args.new c.args.old) c.new-out.ensures.bytes c.in-Ok.ensures
-    (ap (λ n. comparison_within ms n c.args.new c.args.old) (c.deref-mut.ensures.len ∙ c.in-ok-table.ensures.len))
+    first_text (string_bytes c.new-out.result) (string_bytes c.add_comparison.new.out) (comparison_within ms (length c.deref_mut.result.now) c.args.new c.args.old) (comparison ms c.args.new c.args.old) c.new-out.ensures.bytes c.in-Ok.ensures
+    (ap (λ n. comparison_within ms n c.args.new c.args.old) (c.deref_mut.ensures.len ∙ c.in_ok-table.ensures.len))

@@ -9,5 +9,5 @@ pub returns-in-Ok : goal.returns-in-Ok
 unfolding comparisons
 returns-in-Ok g c =
     let ms : Catalogue = g.C.Catalogue.meaning c.args.catalogue.now in
-    first_text (string_bytes c.new-lines.result) (string_bytes c.add-all.new.out) (numbered (λ new (m : Module). comparison_lines ms (length c.deref-mut.result.now) new) 0 ms) (comparisons ms) c.new-lines.ensures.bytes c.in-Ok.ensures
-    (ap (λ n. numbered (λ new (m : Module). comparison_lines ms n new) 0 ms) (c.deref-mut.ensures.len ∙ c.in-ok-table.ensures.len))
+    first_text (string_bytes c.new-lines.result) (string_bytes c.add_all.new.out) (numbered (λ new (m : Module). comparison_lines ms (length c.deref_mut.result.now) new) 0 ms) (comparisons ms) c.new-lines.ensures.bytes c.in-Ok.ensures
+    (ap (λ n. numbered (λ new (m : Module). comparison_lines ms n new) 0 ms) (c.deref_mut.ensures.len ∙ c.in_ok-table.ensures.len))

@@ -11,8 +11,8 @@ loop-i-init c = completing_none c.args.stack.now.ops c.args.low c.args.first c.a
 pub loop-i-preserved : goal.loop-i-preserved
 loop-i-preserved c =
     completing_more c.args.stack.now.ops c.args.low c.args.first c.args.rows c.args.stack.now.pending c.args.places.now
-    c.loop-i.n c.loop-i.i c.loop-i.places c.place-for.result c.requires.room c.loop-i-test.true
-    (c.place-for.ensures ∙ ap (λ (o : Open). place_for o c.newest-k.result) c.op-at-op.ensures ∙ ap (λ (k : ℕ). place_for (op_at c.args.stack.now.ops (c.loop-i.i - 1)) k) c.newest-k.ensures) c.loop-i.invariant
+    c.loop-i.n c.loop-i.i c.loop-i.places c.place_for.result c.requires.room c.loop-i-test.true
+    (c.place_for.ensures ∙ ap (λ (o : Open). place_for o c.newest-k.result) c.op_at-op.ensures ∙ ap (λ (k : ℕ). place_for (op_at c.args.stack.now.ops (c.loop-i.i - 1)) k) c.newest-k.ensures) c.loop-i.invariant
 
 pub returns : goal.returns
 returns c =

@@ -10,8 +10,8 @@ use Rattle.book_text.specs.Steps.{Leads}
 use Rattle.book_text.proofs.Pushing.{with_stack, act_no, act_ok}
 use Rattle.book_text.proofs.steps.on_act.Goals as goal
 
-pub returns-then-not-is-in : goal.returns-then-not-is-in
-returns-then-not-is-in c = λ text P M st. (act_no text c.args.parser.now P M c.args.at st c.args.action (sym c.is_in.ensures ∙ c.if-not-is-in.true), refl)
+pub returns-then-not-is_in : goal.returns-then-not-is_in
+returns-then-not-is_in c = λ text P M st. (act_no text c.args.parser.now P M c.args.at st c.args.action (sym c.is_in.ensures ∙ c.if-not-is_in.true), refl)
 
 pub returns : goal.returns
 returns c = λ text P M st.
@@ -23,4 +23,4 @@ returns c = λ text P M st.
     (sym c.push.ensures)
     (subst (λ (z : ℤ). Leads (length P) (length M) (length text) (view text d P M) (act a) c.args.at
     (view text (with_stack Point (pushed d.stack (Acting z)) d) P M) (with_stack Point (pushed d.stack (Acting z)) d) (Ok tt)) (sym back)
-    (act_ok text d P M c.args.at st a (sym c.is_in.ensures ∙ c.if-not-is-in.false)))
+    (act_ok text d P M c.args.at st a (sym c.is_in.ensures ∙ c.if-not-is_in.false)))

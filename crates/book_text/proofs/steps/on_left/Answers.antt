@@ -8,26 +8,26 @@ use Rattle.book_text.specs.Steps.{Leads}
 use Rattle.book_text.proofs.Naming.{left_again, left_many, left_ok, long_leaves}
 use Rattle.book_text.proofs.steps.on_left.Goals as goal
 
-pub returns-in-err-no-longer : goal.returns-in-err-no-longer
-returns-in-err-no-longer c = λ P M st.
-    long_leaves c.args.text.now c.args.parser.now P M c.args.at st c.args.x.now _ _ Left _ c.from-residual.result
-    c.requires.here (inr (inl refl)) c.in-err-no-longer.ensures c.from-residual.ensures.1
+pub returns-in_err-no_longer : goal.returns-in_err-no_longer
+returns-in_err-no_longer c = λ P M st.
+    long_leaves c.args.text.now c.args.parser.now P M c.args.at st c.args.x.now _ _ Left _ c.from_residual.result
+    c.requires.here (inr (inl refl)) c.in_err-no_longer.ensures c.from_residual.ensures.1
 
 pub returns-in-Some : goal.returns-in-Some
 returns-in-Some c = λ P M st. (
-  left_again c.args.text.now c.args.parser.now P M c.args.at st c.args.x.now c.in-Some._i c.requires.here c.in-ok-no-longer.ensures
+  left_again c.args.text.now c.args.parser.now P M c.args.at st c.args.x.now c.in-Some._i c.requires.here c.in_ok-no_longer.ensures
       (sym c.in-Some.ensures),
   refl,
 )
 
-pub returns-then-n-ge-MOST-EQUATIONS : goal.returns-then-n-ge-MOST-EQUATIONS
-returns-then-n-ge-MOST-EQUATIONS c = λ P M st. (
-  left_many c.args.text.now c.args.parser.now P M c.args.at st c.args.x.now c.requires.here c.in-ok-no-longer.ensures
-      (sym c.in-default.ensures) c.if-n-ge-MOST-EQUATIONS.true,
+pub returns-then-n-ge-MOST_EQUATIONS : goal.returns-then-n-ge-MOST_EQUATIONS
+returns-then-n-ge-MOST_EQUATIONS c = λ P M st. (
+  left_many c.args.text.now c.args.parser.now P M c.args.at st c.args.x.now c.requires.here c.in_ok-no_longer.ensures
+      (sym c.in_default.ensures) c.if-n-ge-MOST_EQUATIONS.true,
   refl,
 )
 
 pub returns : goal.returns
 returns c = λ P M st.
-    left_ok c.args.text.now c.args.parser.now P M c.args.at st c.args.x.now c.requires.here c.in-ok-no-longer.ensures c.requires.spelled
-    (sym c.in-default.ensures) c.if-n-ge-MOST-EQUATIONS.false
+    left_ok c.args.text.now c.args.parser.now P M c.args.at st c.args.x.now c.requires.here c.in_ok-no_longer.ensures c.requires.spelled
+    (sym c.in_default.ensures) c.if-n-ge-MOST_EQUATIONS.false

@@ -3,20 +3,20 @@ use Rattle.book_text.proofs.Whole.{going_first, going_more, going_refused, ends_
 use Rattle.book_text.proofs.steps.reading.read_words.Goals as goal
 
 pub loop-found-init : goal.loop-found-init
-loop-found-init c = going_first c.args.text.now c.args.places.now c.args.modules.now c.new-parser-parser.result c.new-parser-parser.ensures
+loop-found-init c = going_first c.args.text.now c.args.places.now c.args.modules.now c.new_parser-parser.result c.new_parser-parser.ensures
 
 pub loop-found-preserved : goal.loop-found-preserved
 loop-found-preserved c =
     going_more c.args.text.now c.args.places.now c.args.modules.now c.loop-found.parser c.loop-found.places c.loop-found.modules c.loop-found.at
     c.in-Some.found c.step.new.parser c.step.new.places c.step.new.modules c.in-Some.ensures c.loop-found.invariant
-    c.step.auto.places c.step.auto.modules c.in-ok-step.ensures
+    c.step.auto.places c.step.auto.modules c.in_ok-step.ensures
 
-pub returns-then-is-in : goal.returns-then-is-in
-returns-then-is-in c =
+pub returns-then-is_in : goal.returns-then-is_in
+returns-then-is_in c =
     ends_taken c.args.text.now c.args.places.now c.args.modules.now c.loop-found.parser c.loop-found.places c.loop-found.modules c.loop-found.at
-    c.in-default.ensures c.loop-found.invariant (sym c.is_in.ensures ∙ c.if-is-in.true)
+    c.in_default.ensures c.loop-found.invariant (sym c.is_in.ensures ∙ c.if-is_in.true)
 
-pub returns-else-is-in : goal.returns-else-is-in
-returns-else-is-in c =
+pub returns-else-is_in : goal.returns-else-is_in
+returns-else-is_in c =
     ends_unfinished c.args.text.now c.args.places.now c.args.modules.now c.loop-found.parser c.loop-found.places c.loop-found.modules c.loop-found.at
-    c.in-default.ensures c.loop-found.invariant (sym c.is_in.ensures ∙ c.if-is-in.false)
+    c.in_default.ensures c.loop-found.invariant (sym c.is_in.ensures ∙ c.if-is_in.false)

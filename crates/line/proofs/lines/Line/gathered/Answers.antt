@@ -9,7 +9,7 @@ use Rattle.line_rules.proofs.Gathering.{Gathered, gathered_none, gathered_more, 
 use Rattle.line.specs.Meaning.{line_of}
 use Rattle.line.proofs.Held.{count_is}
 use Rattle.line.proofs.Timing.{held_is}
-use Rattle.line.proofs.lines.Line.gathered.Goals.{then-meets-opposites, else-meets-opposites}
+use Rattle.line.proofs.lines.Line.gathered.Goals.{then-meets_opposites, else-meets_opposites}
 use Rattle.line.proofs.lines.Line.gathered.Goals as goal
 
 pub loop-i-init : goal.loop-i-init
@@ -25,8 +25,8 @@ loop-i-preserved g c =
     let here : c.image-here.result ≡ next = c.image-here.ensures.value ∙ ap (image _) c.urgent.ensures ∙ sym (held_is c.args.self.now ms c.loop-i.i c.index-self-i.result c.loop-i-test.true s) in
     let meeting : c.meets_opposites.result ≡ meets all next = c.meets_opposites.ensures.value ∙ ap (meets all) here in
     let met : (a : ℤ) → has c.if-meets_opposites.all a ≡ (has all a || (meets all next && same a internal)) = elim c.if-meets_opposites.branch [
-      | then-meets-opposites w ↦ subst (λ (x : ActionSet). (a : ℤ) → has x a ≡ (has all a || (meets all next && same a internal))) (sym w.all-is) (met_then all w.insert.new.self next (sym meeting ∙ w.if-meets_opposites.true) w.insert.ensures)
-      | else-meets-opposites w ↦ subst (λ (x : ActionSet). (a : ℤ) → has x a ≡ (has all a || (meets all next && same a internal))) (sym w.all-is) (met_else all next (sym meeting ∙ w.if-meets_opposites.false))
+      | then-meets_opposites w ↦ subst (λ (x : ActionSet). (a : ℤ) → has x a ≡ (has all a || (meets all next && same a internal))) (sym w.all-is) (met_then all w.insert.new.self next (sym meeting ∙ w.if-meets_opposites.true) w.insert.ensures)
+      | else-meets_opposites w ↦ subst (λ (x : ActionSet). (a : ℤ) → has x a ≡ (has all a || (meets all next && same a internal))) (sym w.all-is) (met_else all next (sym meeting ∙ w.if-meets_opposites.false))
     ] in
     gathered_more ms line s c.loop-i.i all c.loop-i.invariant c.if-meets_opposites.all c.union-all.result met
     (λ a. c.union-all.ensures a ∙ ap (λ (x : ActionSet). has c.if-meets_opposites.all a || has x a) here)

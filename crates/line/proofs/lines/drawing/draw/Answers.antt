@@ -76,7 +76,7 @@ invariant_of-result g c =
     let some = not_none (length ps) (sym c.is_empty.ensures ∙ c.if-is_empty.false) in
     let few = c.if-slots-gt-MOST_SLOTS.false in
     let open' : has c.in-Some.hidden (pos 0) ≡ false = subst (λ (s : ActionSet). has s (pos 0) ≡ false) (sym good.1) (ports_open c.args.hidden.now good.0) in
-    (c.loop-i.invariant.whole, (some, (few, (open', tt))))
+    record { whole = c.loop-i.invariant.whole; some = some; few = few; unhidden = open' }
 
 pub returns : goal.returns
 returns g c =
