@@ -3,11 +3,11 @@ use Rattle.std.proofs.lemmas.Result.{IfOk-from_err}
 use Rattle.output.proofs.Shown.{book_alike}
 use Rattle.output.proofs.output_text.Goals as goal
 
-pub returns-in-err-modules : goal.returns-in-err-modules
-returns-in-err-modules c = IfOk-from_err c.from-residual-in-err-modules.result _ c.from-residual-in-err-modules.ensures.0
+pub returns-in_err-modules : goal.returns-in_err-modules
+returns-in_err-modules c = IfOk-from_err c.from_residual-in_err-modules.result _ c.from_residual-in_err-modules.ensures.0
 
-pub files-text-requires : goal.files-text-requires
-files-text-requires c = (c.deref-mut.ensures.len ∙ c.in-ok-places.ensures.len, c.deref-mut-2.ensures.len ∙ c.in-ok-modules.ensures.len)
+pub files_text-requires : goal.files_text-requires
+files_text-requires c = (c.deref_mut.ensures.len ∙ c.in_ok-places.ensures.len, c.deref_mut-2.ensures.len ∙ c.in_ok-modules.ensures.len)
 
 pub returns : goal.returns
-returns c = book_alike c.files-text.result c.args.request c.deref.result.now (vec_items c.args.book) (vec_items c.args.table) c.deref.ensures.value c.files-text.ensures
+returns c = book_alike c.files_text.result c.args.request c.deref.result.now (vec_items c.args.book) (vec_items c.args.table) c.deref.ensures.value c.files_text.ensures

@@ -16,9 +16,9 @@ pub loop-slot-preserved : goal.loop-slot-preserved
 loop-slot-preserved g c =
     let ms : Catalogue = g.C.Catalogue.meaning c.args.catalogue.now in
     let n : ℕ = length (line_of c.args.line.now).slots in
-    slots_more ms (line_of c.loop-slot.line) (line_of c.try-slot.new.line) (string_bytes c.loop-slot.out) (string_bytes c.try-slot.new.out) _ (length c.args.table.now) (length ms) c.loop-slot.slot (counting c.loop-slot.slot (n - c.loop-slot.slot)) (counting (c.loop-slot.slot + 1) (n - (c.loop-slot.slot + 1)))
+    slots_more ms (line_of c.loop-slot.line) (line_of c.try_slot.new.line) (string_bytes c.loop-slot.out) (string_bytes c.try_slot.new.out) _ (length c.args.table.now) (length ms) c.loop-slot.slot (counting c.loop-slot.slot (n - c.loop-slot.slot)) (counting (c.loop-slot.slot + 1) (n - (c.loop-slot.slot + 1)))
     (counting_more c.loop-slot.slot n (omega (arith, c.slots-count.ensures)))
-    (subst (λ k. Tried ms (line_of c.loop-slot.line) (line_of c.try-slot.new.line) (string_bytes c.loop-slot.out) (string_bytes c.try-slot.new.out) (slot_trials k (length ms) c.loop-slot.slot)) c.loop-slot.auto.table c.in-ok-try-slot.ensures)
+    (subst (λ k. Tried ms (line_of c.loop-slot.line) (line_of c.try_slot.new.line) (string_bytes c.loop-slot.out) (string_bytes c.try_slot.new.out) (slot_trials k (length ms) c.loop-slot.slot)) c.loop-slot.auto.table c.in_ok-try_slot.ensures)
     c.loop-slot.invariant
 
 pub returns : goal.returns

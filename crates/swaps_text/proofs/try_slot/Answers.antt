@@ -21,10 +21,10 @@ loop-part-preserved g c =
     let f : List ℕ → List Swap = map (λ m. asked c.args.slot m (length c.args.table.now)) in
     let w : Swap = asked c.args.slot c.loop-part.part (length c.args.table.now) in
     let t : length c.loop-part.table ≡ length c.args.table.now = c.loop-part.auto.table in
-    tried_more ms (line_of c.args.line.now) (line_of c.loop-part.line) (line_of c.swap-outcome.new.self) (string_bytes c.args.out.now) (string_bytes c.loop-part.out) (string_bytes c.add-trial.new.out) (slot_trials (length c.args.table.now) (length ms) c.args.slot) (f (counting c.loop-part.part (length ms - c.loop-part.part))) (f (counting (c.loop-part.part + 1) (length ms - (c.loop-part.part + 1)))) w
+    tried_more ms (line_of c.args.line.now) (line_of c.loop-part.line) (line_of c.swap-outcome.new.self) (string_bytes c.args.out.now) (string_bytes c.loop-part.out) (string_bytes c.add_trial.new.out) (slot_trials (length c.args.table.now) (length ms) c.args.slot) (f (counting c.loop-part.part (length ms - c.loop-part.part))) (f (counting (c.loop-part.part + 1) (length ms - (c.loop-part.part + 1)))) w
     (ap f (counting_more c.loop-part.part (length ms) (omega (arith, c.modules-count.ensures))))
     (c.swap-outcome.ensures.line ∙ ap (λ n. swapped ms (line_of c.loop-part.line) (asked c.args.slot c.loop-part.part n)) t)
-    (c.in-ok-add-trial.ensures ∙ ap (λ (r : Result ℕ SwapFault). string_bytes c.loop-part.out ++ trial_line c.args.slot c.loop-part.part r) (c.swap-outcome.ensures.answer ∙ ap (λ n. swap_answer ms (line_of c.loop-part.line) (asked c.args.slot c.loop-part.part n)) t))
+    (c.in_ok-add_trial.ensures ∙ ap (λ (r : Result ℕ SwapFault). string_bytes c.loop-part.out ++ trial_line c.args.slot c.loop-part.part r) (c.swap-outcome.ensures.answer ∙ ap (λ n. swap_answer ms (line_of c.loop-part.line) (asked c.args.slot c.loop-part.part n)) t))
     c.loop-part.invariant
 
 pub returns : goal.returns
