@@ -1,4 +1,5 @@
 // Compares the modules of the book and the maker's table in the working folder: every two of them, or the two that are named.
+use anyhow::anyhow;
 use output::{BOOK_NAME, Request, TABLE_NAME, output_text};
 use report::LONGEST_FILE;
 use std::fs::File;
@@ -31,10 +32,10 @@ fn request(rt: &HostRuntime) -> anyhow::Result<Request> {
         return Ok(Request::Comparisons);
     };
     let Some(old) = words.next() else {
-        return Err(USAGE.into());
+        return Err(anyhow!(USAGE));
     };
     if words.next().is_some() {
-        return Err(USAGE.into());
+        return Err(anyhow!(USAGE));
     }
     Ok(Request::Comparison(new.parse::<usize>()?, old.parse::<usize>()?))
 }

@@ -10,16 +10,16 @@ returns-then-book-gt-LONGEST_FILE c = inr (λ show. long_book show c.args.book.n
 pub returns-in_err-used : goal.returns-in_err-used
 returns-in_err-used c =
     let p = err_from_is_err_and c.from_residual.result c.from_residual.ensures.1 in
-    rw (p.1, p.2) (inr (λ show. by_book show c.args.book.now (vec_items c.args.table) _ (length c.args.places.now) (length c.args.modules.now) (omega arith) c.requires.0 c.requires.1 c.in_err-used.ensures.result.fault))
+    rw (p.1, p.2) (inr (λ show. by_book show c.args.book.now (vec_items c.args.table) _ (length c.args.places.now) (length c.args.modules.now) (omega arith) c.requires.places_len c.requires.modules_len c.in_err-used.ensures.result.fault))
 
 pub returns-then-len-gt-LONGEST_FILE : goal.returns-then-len-gt-LONGEST_FILE
 returns-then-len-gt-LONGEST_FILE c =
-    inr (λ show. long_table show c.args.book.now (vec_items c.args.table) (take c.in_ok-used.used.places c.read.new.places) (take c.in_ok-used.used.modules c.read.new.modules) (length c.args.places.now) (length c.args.modules.now) (omega arith) c.requires.0 c.requires.1 c.in_ok-used.ensures.result.rows (omega (arith, c.args.table.ok.0)))
+    inr (λ show. long_table show c.args.book.now (vec_items c.args.table) (take c.in_ok-used.used.places c.read.new.places) (take c.in_ok-used.used.modules c.read.new.modules) (length c.args.places.now) (length c.args.modules.now) (omega arith) c.requires.places_len c.requires.modules_len c.in_ok-used.ensures.result.rows (omega (arith, c.args.table.ok.0)))
 
 pub returns-in_err-taken : goal.returns-in_err-taken
 returns-in_err-taken c =
     let p = err_from_is_err_and c.from_residual-in_err-taken.result c.from_residual-in_err-taken.ensures.1 in
-    rw (p.1, p.2) (table_refused c.args.book.now (vec_items c.args.table) (take c.in_ok-used.used.places c.read.new.places) (take c.in_ok-used.used.modules c.read.new.modules) (length c.args.places.now) (length c.args.modules.now) (omega arith) c.requires.0 c.requires.1 c.in_ok-used.ensures.result.rows (omega (arith, c.args.table.ok.0)) c.in_err-taken.field-0.0 c.in_err-taken.ensures.answer)
+    rw (p.1, p.2) (table_refused c.args.book.now (vec_items c.args.table) (take c.in_ok-used.used.places c.read.new.places) (take c.in_ok-used.used.modules c.read.new.modules) (length c.args.places.now) (length c.args.modules.now) (omega arith) c.requires.places_len c.requires.modules_len c.in_ok-used.ensures.result.rows (omega (arith, c.args.table.ok.0)) c.in_err-taken.field-0.0 c.in_err-taken.ensures.answer)
 
 pub returns : goal.returns
 returns c =
@@ -27,5 +27,5 @@ returns c =
     record {
       places_used = omega (arith, used.places_used, c.read.auto.places);
       modules_used = omega (arith, used.modules_used, c.read.auto.modules);
-      means = both_taken c.args.book.now (vec_items c.args.table) (take c.in_ok-used.used.places c.read.new.places) (take c.in_ok-used.used.modules c.read.new.modules) (length c.args.places.now) (length c.args.modules.now) (omega arith) c.requires.0 c.requires.1 used.rows (omega (arith, c.args.table.ok.0)) (written c.in_ok-taken.taken) c.in_ok-taken.ensures.answer.0 c.in_ok-taken.ensures.answer.1;
+      means = both_taken c.args.book.now (vec_items c.args.table) (take c.in_ok-used.used.places c.read.new.places) (take c.in_ok-used.used.modules c.read.new.modules) (length c.args.places.now) (length c.args.modules.now) (omega arith) c.requires.places_len c.requires.modules_len used.rows (omega (arith, c.args.table.ok.0)) (written c.in_ok-taken.taken) c.in_ok-taken.ensures.answer.0 c.in_ok-taken.ensures.answer.1;
     }
