@@ -1,4 +1,6 @@
 // Compares the modules of the book and the maker's table in the working folder: every two of them, or the two that are named.
+#![tactic(auto)]
+
 use anyhow::anyhow;
 use output::{BOOK_NAME, Request, TABLE_NAME, output_text};
 use report::LONGEST_FILE;

@@ -1,5 +1,5 @@
 -- A question about a module of a book finds what its places have. Assumes nothing.
-use Rattle.std.proofs.Common.{◌≡◌, ℕ, zero, suc, ◌+◌, ◌-◌, ◌*◌, ◌/◌, ◌%◌, ◌<◌, ◌≤◌, Bool, true, false, ltb, List, [], ◌∷◌, map, length, get_or, take, drop, Some, None, Option, sym, refl, ap, ◌∙◌, subst, arith}
+use Rattle.std.proofs.Common.{◌≡◌, ℕ, zero, suc, ◌+◌, ◌-◌, ◌*◌, ◌/◌, ◌%◌, ◌<◌, ◌≤◌, Bool, true, false, ltb, List, [], ◌∷◌, length, get_or, take, drop, Some, None, Option, sym, refl, ap, ◌∙◌, subst, arith}
 use lib.ListN.{length-map}
 use Rattle.std.proofs.lemmas.List.{get_or_past}
 use Rattle.std.proofs.lemmas.Bool.{lt-ltb, le-ltb}
@@ -11,17 +11,15 @@ use Rattle.catalogue.specs.Catalogue.{Catalogue, Module, State, nowhere, absent,
 use Rattle.rows.specs.declared.row.Place.{Place}
 use Rattle.rows.specs.declared.row.ModuleRow.{ModuleRow}
 use Rattle.rows.specs.declared.fault.RowsFault.{RowsFault}
-use Rattle.rows.specs.Places.{ages, code, ends, depth_of, urgent_of, older, tick_of, state_of}
-use Rattle.rows.specs.Opening.{book_places, places_of, module_at, fault, opened, row_of, places_in}
+use Rattle.rows.specs.Places.{code, depth_of, older, state_of}
+use Rattle.rows.specs.Opening.{module_at, fault, opened, row_of, places_in}
 use Rattle.rows.proofs.Accepted.{Accepted, each_accepted, places_length}
 use Rattle.rows.proofs.Rules.{size, at_in, at_out, module_is, opened_is, nothing}
-use Rattle.trial.specs.declared.summary.Summary.{Summary}
 use Rattle.book.specs.declared.table.Summaries.{Summaries}
 use Rattle.book.specs.declared.questions.Equations.{Equations}
-use Rattle.trial.specs.Summaries.{unknown}
 use Rattle.book.specs.Keeping.{Site, summary_at, kept_at, no_summaries}
 use Rattle.book.specs.Asking.{Found, Known, KnownIn, state_with}
-use Rattle.book.proofs.Walking.{nth_past, depth_is}
+use Rattle.book.proofs.Walking.{nth_past}
 
 -- ── a code of a module ──
 

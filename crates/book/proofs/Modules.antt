@@ -1,12 +1,12 @@
 -- One module after the other: the verdict so far, and what the table keeps. Assumes nothing.
-use Rattle.std.proofs.Common.{◌≡◌, ℕ, zero, suc, ◌+◌, ◌<◌, ◌≤◌, ◌≢◌, ◌⊎◌, List, [], ◌∷◌, length, get_or, drop, set, IsErrAnd, Some, None, Ok, Err, Option, Result, sym, refl, ap, ◌∙◌, subst, inl, inr, arith, get_or-set_other, get_or-set_same}
+use Rattle.std.proofs.Common.{◌≡◌, ℕ, suc, ◌+◌, ◌<◌, ◌≤◌, ◌⊎◌, List, [], length, get_or, drop, set, IsErrAnd, Some, None, Err, Option, Result, sym, ap, ◌∙◌, subst, inl, inr, arith, get_or-set_other, get_or-set_same}
 use Rattle.std.proofs.lemmas.List.{drop_more, drop_all}
 use Rattle.std.proofs.lemmas.Result.{err_from_is_err_and}
 use Rattle.std.proofs.lemmas.Bool.{cases_eq}
 use Rattle.rows.specs.declared.row.Place.{Place}
 use Rattle.rows.specs.declared.row.ModuleRow.{ModuleRow}
 use Rattle.rows.specs.declared.fault.RowsFault.{RowsFault}
-use Rattle.rows.specs.Opening.{places_of, module_fault, fault_from, fault, verdict_of, row_of, places_in}
+use Rattle.rows.specs.Opening.{module_fault, fault_from, fault, verdict_of, row_of, places_in}
 use Rattle.trial.specs.declared.summary.Summary.{Summary}
 use Rattle.book.specs.declared.table.Summaries.{Summaries}
 use Rattle.trial.specs.Summaries.{unknown, summary, Summarizes}

@@ -1,5 +1,5 @@
 -- What a walk finds at a place, from what it finds at the places that the place leads to. Assumes nothing.
-use Rattle.std.proofs.Common.{◌≡◌, ℕ, zero, suc, ◌-◌, ◌<◌, ◌≤◌, min, Bool, true, false, ◌&&◌, ◌||◌, List, [], ◌∷◌, ◌++◌, length, get_or, ℤ, Some, None, Option, sym, refl, ap, ◌∙◌, subst, arith, length-append}
+use Rattle.std.proofs.Common.{◌≡◌, ℕ, zero, suc, ◌-◌, ◌<◌, ◌≤◌, min, Bool, true, false, ◌&&◌, ◌||◌, List, [], ◌∷◌, ◌++◌, length, get_or, ℤ, Some, None, sym, refl, ap, ◌∙◌, subst, arith, length-append}
 use Rattle.action.specs.declared.set.ActionSet.{ActionSet}
 use Rattle.action.specs.Lists.{nth}
 use Rattle.action.specs.Action.{is_action, same}

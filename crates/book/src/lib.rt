@@ -1,4 +1,6 @@
 // Rows opened as a catalogue: the book of modules that a planner wrote.
+#![tactic(auto)]
+
 ghost use Rattle.std.specs.Prelude.{◌≡◌};
 ghost use Rattle.rows.specs.Opening.{fault};
 ghost use Rattle.book.specs.Keeping.{Site, kept_at, summary_at};

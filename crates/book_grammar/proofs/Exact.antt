@@ -1,33 +1,22 @@
 -- A text is taken exactly when it has a derivation within the limits.
-use Rattle.std.proofs.Common.{◌≡◌, ℕ, zero, suc, ◌+◌, ◌-◌, ◌<◌, ◌≤◌, max, Bool, true, false, not, ◌&&◌, ◌||◌, eqb, ltb, ◌⊎◌, List, [], ◌∷◌, ◌++◌, map, length, ℤ, Some, None, Option, sym, refl, ap, ◌∙◌, subst, inl, inr, arith, length-append}
-use Rattle.std.proofs.lemmas.List.{append-nil, append_assoc, map-append, length-map, length_push}
-use Rattle.std.proofs.lemmas.Bool.{true≢false, false≢true, and_parts, or_cases, or_parts, or_from, and_from, and_left, not-true, not-false, ltb-false, le-ltb, cases_Bool}
+use Rattle.std.proofs.Common.{◌≡◌, ℕ, Bool, true, false, not, List, [], ◌∷◌, length, Some, None, Option, sym, refl, ap, ◌∙◌, subst, arith}
+use Rattle.std.proofs.lemmas.Bool.{false≢true, and_parts, not-true}
 use Rattle.rows.specs.declared.row.Place.{Place}
-use Rattle.rows.specs.declared.row.Place.TheVariants.{Nil, Act, Wait, Sum as SumRow, Name}
 use Rattle.rows.specs.declared.row.ModuleRow.{ModuleRow}
-use Rattle.book_words.specs.Words.{same, Kind, Word, words}
+use Rattle.book_words.specs.Words.{Kind, Word, words}
 use Rattle.book_words.specs.Words.Kind.{alien, other, bad, begins, nil, wait, dot, plus, equals, ends, opens, closes, enter, leave, name, act}
-use Rattle.book_grammar.specs.Grammar.{Tree, Equation, Module, Term, Sum, Equations, Book}
-use Rattle.book_grammar.specs.Grammar.Tree.{nought, called, waits, acts, both, group}
-use Rattle.book_grammar.specs.Grammar.Term.{term_nil, term_name, term_wait, term_act, term_group}
-use Rattle.book_grammar.specs.Grammar.Sum.{sum_one, sum_more}
-use Rattle.book_grammar.specs.Grammar.Equations.{last_equation, more_equations}
-use Rattle.book_grammar.specs.Grammar.Book.{no_module, more_modules}
-use Rattle.book_grammar.specs.Rows.{Row, newest, laid, Side, side, rows_after, sides_after, settled, module_row, places_after, modules_after}
-use Rattle.book_grammar.specs.Rows.Row.{plain, named}
-use Rattle.book_grammar.specs.Reading.{State, Open, Reading, on, blank_reading, around, finished, complete, parens, state_number, at, some, inside, behind, allowed, on_name, sided, moved, is}
-use Rattle.book_grammar.specs.Reading.State.{outside, title, brace, left, equal, term, point, after}
-use Rattle.book_grammar.specs.Reading.Open.{waiting, acting, adding, paren}
+use Rattle.book_grammar.specs.Rows.{places_after, modules_after}
+use Rattle.book_grammar.specs.Reading.{Reading, blank_reading, at, allowed, moved, is}
+use Rattle.book_grammar.specs.Reading.State.{outside}
 use Rattle.book_words.specs.Words.{kinds}
-use Rattle.book_grammar.specs.Reading.{long, given, lacking, over, begun, lost, lefts, spelled, taken_names, tried, smallest, Step, Read, run, reading}
-use Rattle.action.specs.Lists.{any}
+use Rattle.book_grammar.specs.Reading.{tried, smallest, Step, Read, run, reading}
 use Rattle.book_grammar.specs.Reading.Step.{stops, goes}
 use Rattle.book_grammar.specs.Reading.Read.{refused, taken}
-use Rattle.book_grammar.specs.Limits.{calls, deep, Short, Each, Apart, Among, FitsEquation, lefts_of, FitsModule, Fits, IsBook, TakenDerived, DerivedTaken}
-use Rattle.book_grammar.proofs.Free.{freely, fine, at_left, at_outside, Closed, sided_last, book_does, titles_after}
+use Rattle.book_grammar.specs.Limits.{TakenDerived, DerivedTaken}
+use Rattle.book_grammar.proofs.Free.{freely, fine, at_outside, book_does, titles_after}
 use Rattle.book_grammar.proofs.Parsed.{book_of}
 use Rattle.book_grammar.proofs.Bounds.{Passes, Passed, book_passes, book_passed}
-use Rattle.book_grammar.proofs.Viable.{Goes, tried_goes, goes_fine}
+use Rattle.book_grammar.proofs.Viable.{tried_goes, goes_fine}
 
 not_alien : (w : Kind) (s : Reading) → allowed s w ≡ true → is w alien ≡ false
 not_alien alien s e = absurd (false≢true e)

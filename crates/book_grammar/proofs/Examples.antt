@@ -1,5 +1,5 @@
 -- The worked texts, computed.
-use Rattle.std.proofs.Common.{◌≡◌, refl}
+use Rattle.std.proofs.Common.{refl}
 use Rattle.book_words.specs.Words.{words}
 use Rattle.book_grammar.specs.Reading.{reading}
 use Rattle.book_grammar.specs.Examples.{Worked}

@@ -1,22 +1,20 @@
 -- What the words of a derivation do, by the grammar alone.
-use Rattle.std.proofs.Common.{◌≡◌, ℕ, zero, suc, ◌+◌, ◌-◌, ◌<◌, ◌≤◌, Bool, true, false, not, ◌&&◌, ◌||◌, eqb, ◌⊎◌, List, [], ◌∷◌, ◌++◌, map, length, ℤ, Some, None, Option, sym, refl, ap, ◌∙◌, subst, inl, inr, arith, length-append}
-use Rattle.std.proofs.lemmas.List.{append-nil, append_assoc}
-use Rattle.std.proofs.lemmas.Bool.{true≢false, false≢true, and_parts}
+use Rattle.std.proofs.Common.{◌≡◌, ℕ, Bool, true, false, not, ◌&&◌, List, [], ◌∷◌, ◌++◌, map, length, Some, None, Option, refl, ap, ◌∙◌}
+use Rattle.std.proofs.lemmas.List.{append_assoc}
+use Rattle.std.proofs.lemmas.Bool.{false≢true}
 use Rattle.rows.specs.declared.row.Place.{Place}
-use Rattle.rows.specs.declared.row.Place.TheVariants.{Nil, Act, Wait, Sum as SumRow, Name}
 use Rattle.rows.specs.declared.row.ModuleRow.{ModuleRow}
-use Rattle.book_words.specs.Words.{same, Kind, Word, words}
-use Rattle.book_words.specs.Words.Kind.{alien, other, bad, begins, nil, wait, dot, plus, equals, ends, opens, closes, enter, leave, name, act}
+use Rattle.book_words.specs.Words.{Kind}
+use Rattle.book_words.specs.Words.Kind.{bad, plus, equals, ends, closes, leave, name}
 use Rattle.book_grammar.specs.Grammar.{Tree, Equation, Module, Term, Sum, Equations, Book}
-use Rattle.book_grammar.specs.Grammar.Tree.{nought, called, waits, acts, both, group}
+use Rattle.book_grammar.specs.Grammar.Tree.{both}
 use Rattle.book_grammar.specs.Grammar.Term.{term_nil, term_name, term_wait, term_act, term_group}
 use Rattle.book_grammar.specs.Grammar.Sum.{sum_one, sum_more}
 use Rattle.book_grammar.specs.Grammar.Equations.{last_equation, more_equations}
 use Rattle.book_grammar.specs.Grammar.Book.{no_module, more_modules}
 use Rattle.book_grammar.specs.Rows.{Row, newest, laid, Side, side, rows_after, sides_after, settled, module_row, places_after, modules_after}
-use Rattle.book_grammar.specs.Rows.Row.{plain, named}
-use Rattle.book_grammar.specs.Reading.{State, Open, Reading, on, blank_reading, around, finished, complete, parens, state_number, at, some, inside, behind, allowed, on_name, sided, moved, is}
-use Rattle.book_grammar.specs.Reading.State.{outside, title, brace, left, equal, term, point, after}
+use Rattle.book_grammar.specs.Reading.{Open, Reading, on, around, finished, some, allowed, sided, moved, is}
+use Rattle.book_grammar.specs.Reading.State.{outside, left, term, after}
 use Rattle.book_grammar.specs.Reading.Open.{waiting, acting, adding, paren}
 
 -- a word of the grammar that may stand there

@@ -1,5 +1,5 @@
 -- The rows of a book that was taken are refused, when they are opened, only for what places lead to: 8, 9 and 10.
-use Rattle.std.proofs.Common.{◌≡◌, ℕ, zero, suc, ◌+◌, ◌-◌, ◌*◌, ◌<◌, ◌≤◌, Bool, true, false, cond, ◌&&◌, eqb, ltb, leb, List, [], ◌∷◌, ◌++◌, map, length, get_or, take, drop, ℤ, pos, negsuc, Some, None, codes, Option, sym, refl, ap, ◌∙◌, subst, arith, length-append}
+use Rattle.std.proofs.Common.{◌≡◌, ℕ, zero, suc, ◌+◌, ◌-◌, ◌*◌, ◌<◌, ◌≤◌, Bool, true, false, cond, eqb, ltb, leb, List, [], ◌∷◌, ◌++◌, map, length, take, drop, pos, negsuc, Some, None, codes, Option, sym, refl, ap, ◌∙◌, subst, arith, length-append}
 use Rattle.std.specs.List.{prefix_len}
 use Rattle.std.proofs.lemmas.List.{append-nil, append_assoc, length_push, length-map, drop_at, take_at}
 use Rattle.std.proofs.lemmas.Bool.{ltb-true, ltb-false, lt-ltb, le-leb, and_parts, and_from}
@@ -12,7 +12,7 @@ use Rattle.rows.specs.declared.fault.RowsFault.TheVariants.{Unguarded, Deep, Man
 use Rattle.rows.specs.Faults.{refusal_number}
 use Rattle.rows.specs.Places.{row, guarded, depth_of, moves_of, ages}
 use Rattle.rows.specs.Opening.{inside, by_action, first_failing, unless, unless_at, places_of, places_fault, module_fault, fault_from, fault}
-use Rattle.book_words.specs.Words.{same, Kind, Word, words, kinds, words_from, blank, alnum, digit, capital, size_at, kind_at, run_kind, mark_kind, ported, port_of, port_up_to, minus}
+use Rattle.book_words.specs.Words.{same, Kind, words, kinds, words_from, blank, alnum, digit, capital, size_at, kind_at, run_kind, mark_kind, ported, port_of, port_up_to, minus}
 use Rattle.book_words.specs.Words.Kind.{alien, other, bad, begins, nil, wait, dot, plus, equals, ends, opens, closes, enter, leave, name, act}
 use Rattle.book_grammar.specs.Grammar.{Tree, Equation, Module, Term, Sum, Equations, Book}
 use Rattle.book_grammar.specs.Grammar.Tree.{nought, called, waits, acts, both, group}
@@ -22,9 +22,8 @@ use Rattle.book_grammar.specs.Grammar.Equations.{last_equation, more_equations}
 use Rattle.book_grammar.specs.Grammar.Book.{no_module, more_modules}
 use Rattle.book_grammar.specs.Rows.{Row, newest, laid, Side, side, rows_after, sides_after, place_of, settled, start_of, module_row, places_after, modules_after}
 use Rattle.book_grammar.specs.Rows.Row.{plain, named}
-use Rattle.book_grammar.specs.Reading.{some, reading}
-use Rattle.book_grammar.specs.Reading.Read.{taken}
-use Rattle.book_grammar.specs.Limits.{Each, FitsModule, Fits, IsBook}
+use Rattle.book_grammar.specs.Reading.{some}
+use Rattle.book_grammar.specs.Limits.{Each, FitsModule}
 use Rattle.book_grammar.specs.Laws.{RowsLast}
 use Rattle.book_grammar.proofs.Bounds.{laid_grows, each_split, each_join}
 use Rattle.book_grammar.proofs.Exact.{taken_derived}

@@ -1,29 +1,19 @@
 -- Where more places are under way than can be taken, only how many are open at each level matters.
-use Rattle.std.proofs.Common.{◌≡◌, ℕ, zero, suc, ◌+◌, ◌-◌, ◌<◌, ◌≤◌, Bool, true, false, not, ◌&&◌, ◌||◌, eqb, ltb, ◌⊎◌, List, [], ◌∷◌, ◌++◌, map, length, ℤ, Some, None, Option, sym, refl, ap, ◌∙◌, subst, inl, inr, arith, length-append}
-use Rattle.std.proofs.lemmas.List.{append-nil, append_assoc, length_push}
-use Rattle.std.proofs.lemmas.Bool.{true≢false, false≢true, and_parts, cases_Bool, ltb-false}
-use Rattle.rows.specs.declared.row.Place.{Place}
-use Rattle.rows.specs.declared.row.Place.TheVariants.{Nil, Act, Wait, Sum as SumRow, Name}
-use Rattle.rows.specs.declared.row.ModuleRow.{ModuleRow}
-use Rattle.book_words.specs.Words.{same, Kind, Word, words}
+use Rattle.std.proofs.Common.{◌≡◌, ℕ, suc, ◌+◌, ◌<◌, ◌≤◌, Bool, true, false, not, ◌||◌, ltb, ◌⊎◌, List, [], ◌∷◌, ◌++◌, length, sym, refl, ap, ◌∙◌, inl, inr, arith}
+use Rattle.std.proofs.lemmas.List.{length_push}
+use Rattle.std.proofs.lemmas.Bool.{true≢false, false≢true}
+use Rattle.rows.specs.declared.row.Place.TheVariants.{Nil, Act, Wait, Sum as SumRow}
+use Rattle.book_words.specs.Words.{Kind, Word}
 use Rattle.book_words.specs.Words.Kind.{alien, other, bad, begins, nil, wait, dot, plus, equals, ends, opens, closes, enter, leave, name, act}
-use Rattle.book_grammar.specs.Grammar.{Tree, Equation, Module, Term, Sum, Equations, Book}
-use Rattle.book_grammar.specs.Grammar.Tree.{nought, called, waits, acts, both, group}
-use Rattle.book_grammar.specs.Grammar.Term.{term_nil, term_name, term_wait, term_act, term_group}
-use Rattle.book_grammar.specs.Grammar.Sum.{sum_one, sum_more}
-use Rattle.book_grammar.specs.Grammar.Equations.{last_equation, more_equations}
-use Rattle.book_grammar.specs.Grammar.Book.{no_module, more_modules}
-use Rattle.book_grammar.specs.Rows.{Row, newest, laid, Side, side, rows_after, sides_after, settled, module_row, places_after, modules_after}
+use Rattle.book_grammar.specs.Rows.{Row, newest, Side}
 use Rattle.book_grammar.specs.Rows.Row.{plain, named}
-use Rattle.book_grammar.specs.Reading.{State, Open, Reading, on, blank_reading, around, finished, complete, parens, state_number, at, some, inside, behind, allowed, on_name, sided, moved, is}
+use Rattle.book_grammar.specs.Reading.{State, Open, Reading, on, around, finished, complete, parens, at, some, inside, behind, sided}
 use Rattle.book_grammar.specs.Reading.State.{outside, title, brace, left, equal, term, point, after}
 use Rattle.book_grammar.specs.Reading.Open.{waiting, acting, adding, paren}
-use Rattle.book_words.specs.Words.{kinds}
-use Rattle.book_grammar.specs.Reading.{long, given, lacking, over, begun, tried, smallest, Step, Read, run}
-use Rattle.action.specs.Lists.{any}
+use Rattle.book_grammar.specs.Reading.{long, over, begun, tried, smallest, Step, Read, run}
 use Rattle.book_grammar.specs.Reading.Step.{stops, goes}
-use Rattle.book_grammar.specs.Reading.Read.{refused, taken}
-use Rattle.book_grammar.proofs.Bounds.{Bounds, bounds_of}
+use Rattle.book_grammar.specs.Reading.Read.{refused}
+use Rattle.book_grammar.proofs.Bounds.{bounds_of}
 
 -- which of what is open are parentheses
 abbrev pub shape : List Open → List Bool

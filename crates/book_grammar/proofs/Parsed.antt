@@ -1,11 +1,11 @@
 -- A run by the grammar alone that ends outside splits into derivations.
-use Rattle.std.proofs.Common.{◌≡◌, ℕ, zero, suc, ◌+◌, ◌-◌, ◌<◌, ◌≤◌, Bool, true, false, not, ◌&&◌, ◌||◌, eqb, ◌⊎◌, List, [], ◌∷◌, ◌++◌, map, length, ℤ, Some, None, Option, sym, refl, ap, ◌∙◌, subst, inl, inr, arith, length-append}
+use Rattle.std.proofs.Common.{◌≡◌, ℕ, zero, suc, ◌≤◌, true, false, ◌⊎◌, List, [], ◌∷◌, ◌++◌, map, length, ℤ, Some, None, Option, sym, refl, ap, ◌∙◌, subst, inl, inr, arith, length-append}
 use Rattle.std.proofs.lemmas.List.{append-nil, append_assoc}
-use Rattle.std.proofs.lemmas.Bool.{true≢false, false≢true, and_parts}
+use Rattle.std.proofs.lemmas.Bool.{false≢true}
 use Rattle.rows.specs.declared.row.Place.{Place}
-use Rattle.rows.specs.declared.row.Place.TheVariants.{Nil, Act, Wait, Sum as SumRow, Name}
+use Rattle.rows.specs.declared.row.Place.TheVariants.{Sum as SumRow}
 use Rattle.rows.specs.declared.row.ModuleRow.{ModuleRow}
-use Rattle.book_words.specs.Words.{same, Kind, Word, words}
+use Rattle.book_words.specs.Words.{Kind}
 use Rattle.book_words.specs.Words.Kind.{alien, other, bad, begins, nil, wait, dot, plus, equals, ends, opens, closes, enter, leave, name, act}
 use Rattle.book_grammar.specs.Grammar.{Tree, Equation, Module, Term, Sum, Equations, Book}
 use Rattle.book_grammar.specs.Grammar.Tree.{nought, called, waits, acts, both, group}
@@ -13,12 +13,12 @@ use Rattle.book_grammar.specs.Grammar.Term.{term_nil, term_name, term_wait, term
 use Rattle.book_grammar.specs.Grammar.Sum.{sum_one, sum_more}
 use Rattle.book_grammar.specs.Grammar.Equations.{last_equation, more_equations}
 use Rattle.book_grammar.specs.Grammar.Book.{no_module, more_modules}
-use Rattle.book_grammar.specs.Rows.{Row, newest, laid, Side, side, rows_after, sides_after, settled, module_row, places_after, modules_after}
-use Rattle.book_grammar.specs.Rows.Row.{plain, named}
-use Rattle.book_grammar.specs.Reading.{State, Open, Reading, on, blank_reading, around, finished, complete, parens, state_number, at, some, inside, behind, allowed, on_name, sided, moved, is}
-use Rattle.book_grammar.specs.Reading.State.{outside, title, brace, left, equal, term, point, after}
+use Rattle.book_grammar.specs.Rows.{Row, newest, laid, Side, side, rows_after, sides_after, settled, module_row}
+use Rattle.book_grammar.specs.Rows.Row.{plain}
+use Rattle.book_grammar.specs.Reading.{Open, Reading, on, around, finished, at, moved}
+use Rattle.book_grammar.specs.Reading.State.{outside, title, brace, equal, term, point, after}
 use Rattle.book_grammar.specs.Reading.Open.{waiting, acting, adding, paren}
-use Rattle.book_grammar.proofs.Free.{freely, fine, at_left, at_outside, book_does, sided_last}
+use Rattle.book_grammar.proofs.Free.{freely, at_left, at_outside, sided_last}
 
 none_some : (z : Reading) → ◌≡◌ {A = Option Reading} None (Some z) → ⊥
 none_some z e = let o : ◌≡◌ {A = ℕ} 0 1 = cc in omega arith

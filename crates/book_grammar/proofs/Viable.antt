@@ -1,29 +1,24 @@
 -- What the grammar leads to can be continued to a book; refusal 2.
-use Rattle.std.proofs.Common.{◌≡◌, ℕ, zero, suc, ◌+◌, ◌-◌, ◌<◌, ◌≤◌, Bool, true, false, not, ◌&&◌, ◌||◌, eqb, ◌⊎◌, List, [], ◌∷◌, ◌++◌, map, length, ℤ, Some, None, Option, sym, refl, ap, ◌∙◌, subst, inl, inr, arith, length-append}
-use Rattle.std.proofs.lemmas.List.{append-nil, append_assoc}
-use Rattle.std.proofs.lemmas.Bool.{true≢false, false≢true, and_parts, or_cases, and_from, eqb-true, cases_Bool, and_left}
+use Rattle.std.proofs.Common.{◌≡◌, ℕ, zero, suc, Bool, true, false, not, ◌||◌, eqb, ◌⊎◌, List, [], ◌∷◌, ◌++◌, length, Some, None, Option, sym, refl, ap, ◌∙◌, subst, inl, inr, arith}
+use Rattle.std.proofs.lemmas.List.{append_assoc}
+use Rattle.std.proofs.lemmas.Bool.{false≢true, and_parts, or_cases, and_from, eqb-true, cases_Bool, and_left}
 use Rattle.rows.specs.declared.row.Place.{Place}
-use Rattle.rows.specs.declared.row.Place.TheVariants.{Nil, Act, Wait, Sum as SumRow, Name}
+use Rattle.rows.specs.declared.row.Place.TheVariants.{Nil}
 use Rattle.rows.specs.declared.row.ModuleRow.{ModuleRow}
-use Rattle.book_words.specs.Words.{same, Kind, Word, words}
+use Rattle.book_words.specs.Words.{Kind, Word, words}
 use Rattle.book_words.specs.Words.Kind.{alien, other, bad, begins, nil, wait, dot, plus, equals, ends, opens, closes, enter, leave, name, act}
-use Rattle.book_grammar.specs.Grammar.{Tree, Equation, Module, Term, Sum, Equations, Book}
-use Rattle.book_grammar.specs.Grammar.Tree.{nought, called, waits, acts, both, group}
-use Rattle.book_grammar.specs.Grammar.Term.{term_nil, term_name, term_wait, term_act, term_group}
-use Rattle.book_grammar.specs.Grammar.Sum.{sum_one, sum_more}
-use Rattle.book_grammar.specs.Grammar.Equations.{last_equation, more_equations}
-use Rattle.book_grammar.specs.Grammar.Book.{no_module, more_modules}
-use Rattle.book_grammar.specs.Rows.{Row, newest, laid, Side, side, rows_after, sides_after, settled, module_row, places_after, modules_after}
-use Rattle.book_grammar.specs.Rows.Row.{plain, named}
-use Rattle.book_grammar.specs.Reading.{State, Open, Reading, on, blank_reading, around, finished, complete, parens, state_number, at, some, inside, behind, allowed, on_name, sided, moved, is}
+use Rattle.book_grammar.specs.Grammar.{Module, Book}
+use Rattle.book_grammar.specs.Rows.{Row, newest, Side, side}
+use Rattle.book_grammar.specs.Rows.Row.{plain}
+use Rattle.book_grammar.specs.Reading.{State, Open, Reading, on, blank_reading, around, finished, state_number, at, some, inside, behind, allowed, on_name, sided, moved, is}
 use Rattle.book_grammar.specs.Reading.State.{outside, title, brace, left, equal, term, point, after}
 use Rattle.book_grammar.specs.Reading.Open.{waiting, acting, adding, paren}
 use Rattle.book_words.specs.Words.{kinds}
 use Rattle.book_grammar.specs.Reading.{long, given, lacking, over, tried, smallest, Step, Read, run, reading}
 use Rattle.book_grammar.specs.Reading.Step.{stops, goes}
 use Rattle.book_grammar.specs.Reading.Read.{refused, taken}
-use Rattle.book_grammar.specs.Laws.{Continues, FirstOut, Unfinished, RefusalTwo}
-use Rattle.book_grammar.proofs.Free.{freely, fine, at_left, at_outside, book_does}
+use Rattle.book_grammar.specs.Laws.{Continues, RefusalTwo}
+use Rattle.book_grammar.proofs.Free.{freely, fine, at_left, book_does}
 use Rattle.book_grammar.proofs.Parsed.{book_of}
 
 state_of : ℕ → State

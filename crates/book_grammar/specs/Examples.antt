@@ -1,9 +1,8 @@
 -- Texts worked out by the definitions.
-use Rattle.std.specs.Prelude.{◌≡◌, ℕ, List, [], ◌∷◌, pos, negsuc, codes}
-use Rattle.rows.specs.declared.row.Place.{Place}
+use Rattle.std.specs.Prelude.{◌≡◌, ℕ, [], ◌∷◌, pos, negsuc, codes}
 use Rattle.rows.specs.declared.row.Place.TheVariants.{Nil, Act, Wait, Sum, Name}
 use Rattle.rows.specs.declared.row.ModuleRow.{ModuleRow}
-use Rattle.book_grammar.specs.Reading.{Read, reading}
+use Rattle.book_grammar.specs.Reading.{reading}
 use Rattle.book_grammar.specs.Reading.Read.{refused, taken}
 
 abbrev pub module_from : (first places start : ℕ) → ModuleRow

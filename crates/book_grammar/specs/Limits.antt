@@ -1,5 +1,5 @@
 -- The limits and the rules of names, of a book as it is derived. Assumes nothing.
-use Rattle.std.specs.Prelude.{◌≡◌, ℕ, suc, ◌≤◌, max, Bool, true, false, List, [], ◌∷◌, ◌++◌, map, length}
+use Rattle.std.specs.Prelude.{◌≡◌, ℕ, suc, ◌≤◌, max, true, false, List, [], ◌∷◌, ◌++◌, map, length}
 use Rattle.book_words.specs.Words.{same, words, kinds}
 use Rattle.book_grammar.specs.Grammar.{Tree, Equation, Module, Book}
 use Rattle.book_grammar.specs.Grammar.Tree.{nought, called, waits, acts, both, group}

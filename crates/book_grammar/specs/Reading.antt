@@ -1,5 +1,5 @@
 -- Reading, word by word, as an automaton with a stack: what may stand where, what a word does, and what is refused. Assumes nothing.
-use Rattle.std.specs.Prelude.{ℕ, zero, suc, ◌+◌, ◌-◌, Bool, true, false, not, ◌&&◌, ◌||◌, List, [], ◌∷◌, ◌++◌, map, length, ℤ, ◌==◌, nat_lt}
+use Rattle.std.specs.Prelude.{ℕ, suc, ◌+◌, Bool, true, false, not, ◌&&◌, ◌||◌, List, [], ◌∷◌, ◌++◌, map, length, ℤ, ◌==◌, nat_lt}
 use Rattle.action.specs.Lists.{any}
 use Rattle.book_grammar.specs.Numbers.{most_modules, most_equations, most_places, most_parentheses, most_letters}
 use Rattle.rows.specs.declared.row.Place.{Place}

@@ -1,5 +1,5 @@
 -- Places are numbered in the order in which their text is complete; the rows of a tree, of a module and of a book. Assumes nothing.
-use Rattle.std.specs.Prelude.{ℕ, ◌-◌, Bool, true, false, cond, List, [], ◌∷◌, ◌++◌, map, length, ℤ}
+use Rattle.std.specs.Prelude.{ℕ, ◌-◌, cond, List, [], ◌∷◌, ◌++◌, map, length}
 use Rattle.rows.specs.declared.row.Place.{Place}
 use Rattle.rows.specs.declared.row.Place.TheVariants.{Nil, Act, Wait, Sum, Name}
 use Rattle.rows.specs.declared.row.ModuleRow.{ModuleRow}

@@ -1,1 +1,3 @@
+#![tactic(auto)]
+
 // The grammar of books: definitions and theorems only. What reads a text by them cites them.

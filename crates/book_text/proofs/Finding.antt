@@ -1,10 +1,10 @@
 -- The first label with a name.
-use Rattle.std.proofs.Common.{◌≡◌, ℕ, zero, suc, ◌+◌, ◌-◌, ◌<◌, ◌≤◌, Bool, true, false, cond, ◌||◌, ◌⊎◌, List, [], ◌∷◌, ◌++◌, map, length, get_or, take, drop, Some, None, Option, sym, refl, ap, ◌∙◌, subst, inl, inr, arith}
+use Rattle.std.proofs.Common.{◌≡◌, ℕ, suc, ◌+◌, ◌-◌, ◌<◌, ◌≤◌, Bool, true, false, ◌||◌, ◌⊎◌, List, [], ◌∷◌, map, length, get_or, take, drop, Some, None, Option, sym, refl, ap, ◌∙◌, inl, inr, arith}
 use Rattle.std.proofs.lemmas.List.{length-take, at_drop_more, at_drop_all, get_or-take}
-use Rattle.std.proofs.lemmas.Bool.{cases_Bool, cond-true, cond-false}
+use Rattle.std.proofs.lemmas.Bool.{cond-true, cond-false}
 use Rattle.action.specs.Lists.{any}
 use Rattle.book_words.specs.Words.{same}
-use Rattle.book_grammar.specs.Rows.{Side, place_of}
+use Rattle.book_grammar.specs.Rows.{place_of}
 use Rattle.book_text.specs.declared.parser.Label.{Label}
 use Rattle.book_text.specs.Parsers.{label_in, side_in}
 use Rattle.book_text.specs.Finding.{first_same}

@@ -1,5 +1,5 @@
 -- The words, and then the rows that they make.
-use Rattle.std.proofs.Common.{◌≡◌, ℕ, ◌-◌, ◌≤◌, List, [], ◌∷◌, length, take, replicate, IsErrAnd, Some, None, Ok, Err, Option, Result, sym, refl, ap, ◌∙◌, subst, arith}
+use Rattle.std.proofs.Common.{◌≡◌, ℕ, ◌-◌, List, length, take, replicate, IsErrAnd, Some, None, Ok, Err, Option, Result, sym, refl, ap, ◌∙◌, subst, arith}
 use Rattle.std.proofs.lemmas.Result.{err_from_is_err_and}
 use Rattle.rows.specs.declared.row.Place.{Place}
 use Rattle.rows.specs.declared.row.Place.TheVariants.{Nil}
@@ -8,12 +8,11 @@ use Rattle.rows.specs.declared.fault.RowsFault.{RowsFault}
 use Rattle.rows.specs.Opening.{fault, verdict_of}
 use Rattle.rows.specs.Faults.{refusal_number, part_of, place_of}
 use Rattle.book_grammar.specs.Reading.{reading}
-use Rattle.book_grammar.specs.Reading.Read.{refused, taken}
 use Rattle.book_text.specs.declared.fault.BookFault.{BookFault}
 use Rattle.book_text.specs.declared.fault.BookFault.TheVariants.{Rows}
 use Rattle.book_text.specs.declared.steps.reading.Used.{Used}
 use Rattle.book_text.specs.Faults.{number_of, where_of}
-use Rattle.book_text.specs.Faults.Where.{offset_at, place_at}
+use Rattle.book_text.specs.Faults.Where.{place_at}
 use Rattle.book_text.specs.Outcomes.{Outcome, judged, judged_read, outcome, zero_row, ReadsWords, ReadsRows, Accepted, TurnedAway, ZeroedPlaces, ZeroedModules}
 use Rattle.book_text.specs.Outcomes.Outcome.{turned_away, accepted}
 

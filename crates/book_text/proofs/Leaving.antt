@@ -1,28 +1,25 @@
 -- `}`: the module at hand is complete.
-use Rattle.std.proofs.Common.{◌≡◌, ℕ, zero, suc, ◌+◌, ◌-◌, ◌<◌, ◌≤◌, Bool, true, false, not, ◌&&◌, ◌||◌, List, [], ◌∷◌, ◌++◌, map, length, get_or, take, drop, set, Ok, Err, sym, refl, ap, ◌∙◌, subst, arith}
+use Rattle.std.proofs.Common.{◌≡◌, ℕ, zero, suc, ◌+◌, ◌<◌, ◌≤◌, true, false, List, [], ◌∷◌, ◌++◌, map, length, get_or, take, set, Ok, sym, refl, ap, ◌∙◌, subst, arith}
 use Rattle.std.proofs.lemmas.List.{length-set, take_more_set}
 use Rattle.std.proofs.lemmas.Bool.{and_from, and_left, and_right}
-use Rattle.action.specs.Lists.{any}
 use Rattle.rows.specs.declared.row.Place.{Place}
 use Rattle.rows.specs.declared.row.ModuleRow.{ModuleRow}
-use Rattle.book_words.specs.Words.{Kind}
 use Rattle.book_words.specs.Words.Kind.{leave}
-use Rattle.book_grammar.specs.Rows.{Row, Side, side, settled, start_of, module_row}
-use Rattle.book_grammar.specs.Reading.{Reading, Open as Entry, some, lost, allowed, moved, lacking, over, tried}
+use Rattle.book_grammar.specs.Rows.{start_of, module_row}
+use Rattle.book_grammar.specs.Reading.{Reading, Open as Entry, some, allowed, moved, over, tried}
 use Rattle.book_grammar.specs.Reading.State.{outside}
-use Rattle.book_grammar.specs.Reading.Step.{stops, goes}
+use Rattle.book_grammar.specs.Reading.Step.{stops}
 use Rattle.book_text.specs.declared.parser.Parser.{Parser}
 use Rattle.book_text.specs.declared.parser.Label.{Label}
-use Rattle.book_text.specs.declared.parser.State.{State}
 use Rattle.book_text.specs.declared.parser.State.TheVariants.{Outside, Left}
-use Rattle.book_text.specs.Parsers.{state_of_stage, floor_of, opened_in, label_in, side_in, rows_view, rows_in, view}
+use Rattle.book_text.specs.Parsers.{floor_of, opened_in, side_in, view}
 use Rattle.book_text.specs.Changes.{is_at}
-use Rattle.book_text.specs.Settling.{sides_of, rows_of, Settles}
+use Rattle.book_text.specs.Settling.{Settles}
 use Rattle.book_text.specs.Steps.{Steady, Leads}
 use Rattle.book_text.proofs.Finding.{no_label}
 use Rattle.book_text.proofs.Terms.{opened_none}
 use Rattle.book_text.proofs.Trying.{stop_2, stop_6, go_to, leads_to}
-use Rattle.book_text.proofs.Viewing.{known, sides_long, rows_long, front_long, not_over, poised_at, modules_at, lent_at, told_at}
+use Rattle.book_text.proofs.Viewing.{known, rows_long, front_long, not_over, poised_at, modules_at, lent_at, told_at}
 
 some_sides : (text : List ℕ) (e : ℕ) (ls : List Label) → 0 < e → e ≤ length ls → some (map (side_in text) (take e ls)) ≡ true
 some_sides text zero ls h k = absurd (omega arith)

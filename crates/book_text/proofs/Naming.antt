@@ -1,7 +1,7 @@
 -- Names: a module's, a left side, a term.
-use Rattle.std.proofs.Common.{◌≡◌, ℕ, zero, suc, ◌+◌, ◌-◌, ◌<◌, ◌≤◌, Bool, true, false, not, ◌&&◌, ◌||◌, ◌⊎◌, List, [], ◌∷◌, ◌++◌, map, length, get_or, take, drop, set, IsErrAnd, Some, None, Ok, Err, Result, sym, refl, ap, ◌∙◌, subst, inl, inr, arith, length-append}
+use Rattle.std.proofs.Common.{◌≡◌, ℕ, ◌+◌, ◌<◌, ◌≤◌, true, false, ◌||◌, ◌⊎◌, List, [], ◌∷◌, ◌++◌, map, length, get_or, take, drop, set, IsErrAnd, Some, None, Ok, Err, Result, sym, refl, ap, ◌∙◌, subst, inl, inr, arith, length-append}
 use Rattle.std.proofs.lemmas.List.{length-set, take_more_set, map_push, get_or-set_same}
-use Rattle.std.proofs.lemmas.Bool.{lt-ltb, le-ltb, or_left, or_right}
+use Rattle.std.proofs.lemmas.Bool.{lt-ltb, le-ltb}
 use Rattle.std.proofs.lemmas.Result.{err_from_is_err_and}
 use Rattle.book_text.specs.declared.fault.BookFault.{BookFault}
 use Rattle.book_text.specs.declared.fault.BookFault.TheVariants.{Word}
@@ -11,28 +11,28 @@ use Rattle.rows.specs.declared.row.Place.{Place}
 use Rattle.rows.specs.declared.row.Place.TheVariants.{Name}
 use Rattle.rows.specs.declared.row.ModuleRow.{ModuleRow}
 use Rattle.action.specs.Lists.{any}
-use Rattle.book_words.specs.Words.{Kind, same}
+use Rattle.book_words.specs.Words.{same}
 use Rattle.book_words.specs.Words.Kind.{name}
 use Rattle.book_grammar.specs.Rows.{Row, Side, side}
-use Rattle.book_grammar.specs.Rows.Row.{plain, named}
-use Rattle.book_grammar.specs.Reading.{Reading, State as Stage, Open as Entry, on, complete, on_name, lefts, taken_names, allowed, moved, long, given, lacking, over, tried}
-use Rattle.book_grammar.specs.Reading.State.{title, brace, left, equal, term, after}
-use Rattle.book_grammar.specs.Reading.Step.{stops, goes}
+use Rattle.book_grammar.specs.Rows.Row.{named}
+use Rattle.book_grammar.specs.Reading.{Reading, complete, on_name, lefts, taken_names, moved, given, over, tried}
+use Rattle.book_grammar.specs.Reading.State.{brace, left, equal}
+use Rattle.book_grammar.specs.Reading.Step.{stops}
 use Rattle.book_text.specs.declared.parser.Parser.{Parser}
 use Rattle.book_text.specs.declared.parser.Span.{Span}
 use Rattle.book_text.specs.declared.parser.Label.{Label}
 use Rattle.book_text.specs.declared.parser.State.{State}
 use Rattle.book_text.specs.declared.parser.State.TheVariants.{Outside, Title, Brace, Left, Equal, Term, Point, After}
-use Rattle.book_text.specs.Parsers.{state_of_stage, opened_in, part_in, label_in, side_in, row_in, rows_view, rows_in, view}
+use Rattle.book_text.specs.Parsers.{state_of_stage, part_in, label_in, side_in, rows_view, rows_in, view}
 use Rattle.book_text.specs.Faults.{number_of, where_of}
 use Rattle.book_text.specs.Faults.Where.{offset_at}
 use Rattle.book_text.specs.Finding.{first_same}
 use Rattle.book_text.specs.Changes.{is_at, waiting_on, Finished, Finishes, TooManyRows}
-use Rattle.book_text.specs.Steps.{Tidy, Poised, unnamed, unfinished, Sound, Steady, Leads}
-use Rattle.book_text.proofs.Finding.{no_label, none_same, some_same}
+use Rattle.book_text.specs.Steps.{Steady, Leads}
+use Rattle.book_text.proofs.Finding.{none_same, some_same}
 use Rattle.book_text.proofs.Rowing.{nowhere, rows_push, rows_set}
 use Rattle.book_text.proofs.Trying.{stop_2, stop_4, stop_5, stop_7, go_to, leads_to, over_equations}
-use Rattle.book_text.proofs.Viewing.{titles_long, sides_long, places_long, not_over, poised_at, modules_at, lent_at, told_at}
+use Rattle.book_text.proofs.Viewing.{sides_long, places_long, not_over, poised_at, modules_at, lent_at, told_at}
 use Rattle.book_text.proofs.Terms.{with_names, leaf_many, leaf_ok}
 
 -- a label at an offset

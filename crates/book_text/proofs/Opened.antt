@@ -1,18 +1,12 @@
 -- What is open, as ops and floors stand for it.
-use Rattle.std.proofs.Common.{◌≡◌, ℕ, zero, suc, ◌+◌, ◌-◌, ◌<◌, ◌≤◌, Bool, true, false, ◌≢◌, ◌⊎◌, List, [], ◌∷◌, ◌++◌, map, length, get_or, take, drop, set, sym, refl, ap, ◌∙◌, subst, inl, inr, arith}
-use Rattle.std.proofs.lemmas.List.{append-nil, length_push, get_or-set_same, get_or-set_other, get_or_past, set_past, length-set}
-use Rattle.rows.specs.declared.row.Place.{Place}
-use Rattle.rows.specs.declared.row.Place.TheVariants.{Nil, Act, Wait, Sum, Name}
-use Rattle.book_grammar.specs.Rows.{Row, newest}
-use Rattle.book_grammar.specs.Rows.Row.{plain, named}
-use Rattle.book_grammar.specs.Reading.{Open as Entry, around, finished, parens}
-use Rattle.book_grammar.specs.Reading.Open.{waiting, acting, adding, paren}
+use Rattle.std.proofs.Common.{◌≡◌, ℕ, zero, suc, ◌+◌, ◌-◌, ◌<◌, ◌≤◌, ◌≢◌, List, [], ◌∷◌, ◌++◌, length, get_or, set, sym, refl, ap, ◌∙◌, subst, arith}
+use Rattle.std.proofs.lemmas.List.{append-nil, get_or-set_same, get_or-set_other, get_or_past, set_past}
+use Rattle.book_grammar.specs.Reading.{Open as Entry, around, parens}
+use Rattle.book_grammar.specs.Reading.Open.{paren}
 use Rattle.book_grammar.proofs.Overfull.{shape, ops}
 use Rattle.book_text.specs.declared.parser.Open.{Open}
 use Rattle.book_text.specs.declared.parser.Open.TheVariants.{Waiting, Acting, Adding}
-use Rattle.book_text.specs.declared.parser.Span.{Span}
-use Rattle.book_text.specs.Parsers.{open_in, op_at, above, floor_of, opened_in, row_in, rows_view, part_in}
-use Rattle.book_text.specs.Stacks.{place_for, closed_rows}
+use Rattle.book_text.specs.Parsers.{open_in, op_at, above, floor_of, opened_in}
 use Rattle.book_text.specs.Steps.{Tidy}
 
 -- an op that is written is above those below it

@@ -1,21 +1,20 @@
 -- Words that only change the state, and `module`.
-use Rattle.std.proofs.Common.{◌≡◌, ℕ, ◌+◌, ◌-◌, ◌<◌, ◌≤◌, Bool, true, false, ◌⊎◌, List, [], ◌∷◌, ◌++◌, map, length, Ok, Err, Result, sym, refl, ap, ◌∙◌, subst, inl, inr, arith}
+use Rattle.std.proofs.Common.{◌≡◌, ℕ, ◌+◌, ◌<◌, ◌≤◌, true, false, ◌⊎◌, List, length, Ok, Err, Result, sym, refl, subst, inl, inr, arith}
 use Rattle.rows.specs.declared.row.Place.{Place}
 use Rattle.rows.specs.declared.row.ModuleRow.{ModuleRow}
 use Rattle.book_words.specs.Words.{Kind}
 use Rattle.book_words.specs.Words.Kind.{begins, enter, equals, dot, bad, other}
-use Rattle.book_grammar.specs.Reading.{tried, moved, over, begun}
-use Rattle.book_grammar.specs.Reading.Step.{stops, goes}
+use Rattle.book_grammar.specs.Reading.{tried, moved}
+use Rattle.book_grammar.specs.Reading.Step.{stops}
 use Rattle.book_text.specs.declared.fault.BookFault.{BookFault}
-use Rattle.book_text.specs.declared.fault.BookFault.TheVariants.{NotAllowed}
 use Rattle.book_text.specs.declared.parser.Parser.{Parser}
 use Rattle.book_text.specs.declared.parser.State.{State}
-use Rattle.book_text.specs.declared.parser.State.TheVariants.{Outside, Title, Brace, Left, Equal, Term, Point, After}
+use Rattle.book_text.specs.declared.parser.State.TheVariants.{Outside, Title, Brace, Left, Equal, Term, Point}
 use Rattle.book_text.specs.Faults.{number_of, where_of}
 use Rattle.book_text.specs.Faults.Where.{offset_at}
 use Rattle.book_text.specs.Parsers.{view}
 use Rattle.book_text.specs.Changes.{is_at, in_state}
-use Rattle.book_text.specs.Steps.{Steady, Leads, Does, Passes}
+use Rattle.book_text.specs.Steps.{Steady, Leads, Passes}
 use Rattle.book_text.proofs.Trying.{stop_2, stop_3, stop_7, go_to, leads_to, over_modules, over_lent}
 use Rattle.book_text.proofs.Viewing.{known, titles_long, not_over, steady_in, poised_at, modules_at, lent_at, told_at}
 

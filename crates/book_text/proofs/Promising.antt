@@ -1,5 +1,5 @@
 -- What the outcome of a reading tells of the text.
-use Rattle.std.proofs.Common.{◌≡◌, ℕ, ◌⊎◌, List, [], ◌∷◌, length, take, Some, None, Ok, Err, Option, Result, sym, refl, ap, ◌∙◌, subst, inl, inr, arith}
+use Rattle.std.proofs.Common.{◌≡◌, ℕ, ◌⊎◌, List, length, take, Some, None, Ok, Err, Option, Result, sym, refl, ap, ◌∙◌, inl, inr, arith}
 use Rattle.rows.specs.declared.row.Place.{Place}
 use Rattle.rows.specs.declared.row.ModuleRow.{ModuleRow}
 use Rattle.rows.specs.declared.fault.RowsFault.{RowsFault}
@@ -17,9 +17,9 @@ use Rattle.book_text.specs.declared.fault.BookFault.{BookFault}
 use Rattle.book_text.specs.declared.steps.reading.Used.{Used}
 use Rattle.book_text.specs.Faults.{number_of, Where, where_of}
 use Rattle.book_text.specs.Faults.Where.{offset_at, place_at}
-use Rattle.book_text.specs.Outcomes.{Outcome, judged, judged_read, outcome, ReadsRows}
+use Rattle.book_text.specs.Outcomes.{Outcome, judged_read, outcome, ReadsRows}
 use Rattle.book_text.specs.Outcomes.Outcome.{turned_away, accepted}
-use Rattle.book_text.specs.Promises.{TakenText, RowsRefuse, Unopened, RefusedText, Promises}
+use Rattle.book_text.specs.Promises.{RowsRefuse, Unopened, RefusedText, Promises}
 
 -- what an accepted reading was
 accepted_tells : (r : Read) (X : List Place) (Y : List ModuleRow) → judged_read r ≡ accepted X Y → (r ≡ taken X Y) × (fault X Y ≡ None)

@@ -1,5 +1,5 @@
 -- Words that open something: a wait, an action, a sum.
-use Rattle.std.proofs.Common.{◌≡◌, ℕ, zero, suc, ◌+◌, ◌-◌, ◌<◌, ◌≤◌, Bool, true, false, ◌||◌, eqb, ◌⊎◌, List, [], ◌∷◌, ◌++◌, map, length, get_or, set, ℤ, Ok, Err, sym, refl, ap, ◌∙◌, subst, inl, inr, arith}
+use Rattle.std.proofs.Common.{◌≡◌, ℕ, zero, suc, ◌+◌, ◌-◌, ◌≤◌, true, false, ◌||◌, eqb, List, ◌∷◌, length, set, ℤ, Ok, sym, refl, ap, ◌∙◌, inl, inr, arith}
 use Rattle.std.proofs.lemmas.List.{length-set}
 use Rattle.std.proofs.lemmas.Bool.{cases_lt}
 use Rattle.rows.specs.declared.row.Place.{Place}
@@ -9,15 +9,15 @@ use Rattle.book_words.specs.Words.Kind.{alien, bad, wait, act, plus}
 use Rattle.book_grammar.specs.Reading.{Reading, Step, Open as Entry, on, state_number, is, allowed, moved, long, given, lacking, over, tried, run}
 use Rattle.book_grammar.specs.Reading.Open.{adding}
 use Rattle.book_grammar.specs.Reading.State.{term}
-use Rattle.book_grammar.specs.Reading.Step.{stops, goes}
-use Rattle.book_grammar.proofs.Overfull.{shape, ops, over_alike, overfull_run}
+use Rattle.book_grammar.specs.Reading.Step.{stops}
+use Rattle.book_grammar.proofs.Overfull.{shape, over_alike, overfull_run}
 use Rattle.book_text.specs.declared.parser.Parser.{Parser}
 use Rattle.book_text.specs.declared.parser.Stack.{Stack}
 use Rattle.book_text.specs.declared.parser.Open.{Open}
 use Rattle.book_text.specs.declared.parser.Open.TheVariants.{Waiting, Acting, Adding}
 use Rattle.book_text.specs.declared.parser.State.{State}
-use Rattle.book_text.specs.declared.parser.State.TheVariants.{Outside, Title, Brace, Left, Equal, Term, Point, After}
-use Rattle.book_text.specs.Parsers.{state_of_stage, open_in, op_at, opened_in, rows_view, rows_in, view}
+use Rattle.book_text.specs.declared.parser.State.TheVariants.{Term, Point, After}
+use Rattle.book_text.specs.Parsers.{state_of_stage, open_in, op_at, opened_in, view}
 use Rattle.book_text.specs.Stacks.{pushed}
 use Rattle.book_text.specs.Changes.{is_at}
 use Rattle.book_text.specs.Steps.{Tidy, Poised, unnamed, unfinished, Steady, going_on, Leads}

@@ -1,16 +1,14 @@
 -- Rows, as place rows and the names in the text stand for them.
-use Rattle.std.proofs.Common.{◌≡◌, ℕ, zero, suc, ◌+◌, ◌-◌, ◌<◌, ◌≤◌, ◌≢◌, List, [], ◌∷◌, ◌++◌, map, length, get_or, take, drop, set, sym, refl, ap, ◌∙◌, subst, arith, length-drop}
-use Rattle.std.proofs.lemmas.List.{append-nil, length_push, drop-set-add, take_more_set, length-take-le}
+use Rattle.std.proofs.Common.{◌≡◌, ℕ, zero, suc, ◌+◌, ◌-◌, ◌<◌, ◌≤◌, List, [], ◌∷◌, ◌++◌, length, get_or, take, drop, set, sym, refl, ap, ◌∙◌, arith, length-drop}
+use Rattle.std.proofs.lemmas.List.{length_push, drop-set-add, take_more_set, length-take-le}
 use Rattle.rows.specs.declared.row.Place.{Place}
-use Rattle.rows.specs.declared.row.Place.TheVariants.{Nil, Act, Wait, Sum, Name}
 use Rattle.book_grammar.specs.Rows.{Row, newest}
-use Rattle.book_grammar.specs.Rows.Row.{plain, named}
+use Rattle.book_grammar.specs.Rows.Row.{plain}
 use Rattle.book_grammar.specs.Reading.{Open as Entry, finished}
-use Rattle.book_grammar.specs.Reading.Open.{waiting, acting, adding, paren}
 use Rattle.book_text.specs.declared.parser.Open.{Open}
 use Rattle.book_text.specs.declared.parser.Open.TheVariants.{Waiting, Acting, Adding}
 use Rattle.book_text.specs.declared.parser.Span.{Span}
-use Rattle.book_text.specs.Parsers.{open_in, op_at, above, floor_of, opened_in, row_in, rows_view, rows_in, part_in}
+use Rattle.book_text.specs.Parsers.{open_in, op_at, above, floor_of, opened_in, row_in, rows_view}
 use Rattle.book_text.specs.Stacks.{place_for, closed_rows}
 use Rattle.book_text.proofs.Opened.{enclosing, opened_split}
 

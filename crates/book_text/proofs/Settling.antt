@@ -1,20 +1,20 @@
 -- Names that are led to the right sides of their equations, row by row.
-use Rattle.std.proofs.Common.{◌≡◌, ℕ, zero, suc, ◌+◌, ◌-◌, ◌<◌, ◌≤◌, Bool, true, false, not, ◌||◌, ◌≢◌, List, [], ◌∷◌, ◌++◌, map, length, get_or, take, drop, set, Some, None, Option, sym, refl, ap, ◌∙◌, subst, arith, length-drop, length-take}
-use Rattle.std.proofs.lemmas.List.{append-nil, append_assoc, length-set, take_more, take_more_set, drop-set-lt, drop-drop, get_or-drop, get_or-take, take-take, map_push, length-take-le, take_all}
+use Rattle.std.proofs.Common.{◌≡◌, ℕ, zero, suc, ◌+◌, ◌-◌, ◌<◌, ◌≤◌, Bool, true, false, List, [], ◌∷◌, ◌++◌, map, length, get_or, take, drop, set, Some, None, Option, sym, refl, ap, ◌∙◌, arith}
+use Rattle.std.proofs.lemmas.List.{append-nil, append_assoc, length-set, take_more, take_more_set, drop-set-lt, drop-drop, get_or-drop, get_or-take, map_push, length-take-le, take_all}
 use Rattle.std.proofs.lemmas.Bool.{or_from, or_parts, or_left, or_right, not_from_true, not_from_false}
 use Rattle.action.specs.Lists.{any}
 use Rattle.rows.specs.declared.row.Place.{Place}
 use Rattle.rows.specs.declared.row.Place.TheVariants.{Nil, Act, Wait, Sum, Name}
 use Rattle.book_words.specs.Words.{same}
-use Rattle.book_grammar.specs.Rows.{Row, Side, place_of, settled}
-use Rattle.book_grammar.specs.Rows.Row.{plain, named}
-use Rattle.book_grammar.specs.Reading.{lost, lefts}
+use Rattle.book_grammar.specs.Rows.{Row, Side, settled}
+use Rattle.book_grammar.specs.Rows.Row.{named}
+use Rattle.book_grammar.specs.Reading.{lost}
 use Rattle.book_text.specs.declared.parser.Parser.{Parser}
 use Rattle.book_text.specs.declared.parser.Span.{Span}
 use Rattle.book_text.specs.declared.parser.Label.{Label}
-use Rattle.book_text.specs.Parsers.{part_in, label_in, side_in, row_in, rows_view, rows_in}
+use Rattle.book_text.specs.Parsers.{label_in, side_in, row_in, rows_view, rows_in}
 use Rattle.book_text.specs.Finding.{first_same}
-use Rattle.book_text.specs.Settling.{settled_row, sides_of, rows_of, Settles}
+use Rattle.book_text.specs.Settling.{settled_row, sides_of, Settles}
 use Rattle.book_text.proofs.Finding.{no_label, none_same, some_same, place_found}
 use Rattle.book_text.proofs.Naming.{lefts_in}
 use Rattle.book_text.proofs.Rowing.{nowhere, rows_push, length_rows}

@@ -1,19 +1,19 @@
 -- Words that complete a term, and parentheses.
-use Rattle.std.proofs.Common.{◌≡◌, ℕ, zero, suc, ◌+◌, ◌-◌, ◌<◌, ◌≤◌, Bool, true, false, not, ◌&&◌, ◌||◌, eqb, ◌⊎◌, List, [], ◌∷◌, ◌++◌, map, length, get_or, take, drop, set, Ok, Err, Result, sym, refl, ap, ◌∙◌, subst, inl, inr, arith}
+use Rattle.std.proofs.Common.{◌≡◌, ℕ, suc, ◌+◌, ◌-◌, ◌<◌, ◌≤◌, true, false, not, List, [], ◌∷◌, ◌++◌, map, length, get_or, take, set, Ok, Err, Result, sym, refl, ap, ◌∙◌, subst, inl, inr, arith}
 use Rattle.std.proofs.lemmas.List.{length-set, length_push, take_more, take_more_set, take-set-le, map_push}
-use Rattle.std.proofs.lemmas.Bool.{cases_lt, and_from, and_right, and_left}
+use Rattle.std.proofs.lemmas.Bool.{and_from, and_right, and_left}
 use Rattle.book_text.specs.declared.fault.BookFault.{BookFault}
 use Rattle.rows.specs.declared.row.Place.{Place}
 use Rattle.rows.specs.declared.row.Place.TheVariants.{Nil}
 use Rattle.rows.specs.declared.row.ModuleRow.{ModuleRow}
-use Rattle.book_words.specs.Words.{Kind, Word}
+use Rattle.book_words.specs.Words.{Kind}
 use Rattle.book_words.specs.Words.Kind.{alien, bad, nil, opens, closes, ends}
-use Rattle.book_grammar.specs.Rows.{Row, Side, side}
+use Rattle.book_grammar.specs.Rows.{Row, Side}
 use Rattle.book_grammar.specs.Rows.Row.{plain}
-use Rattle.book_grammar.specs.Reading.{Reading, Step, State as Stage, Open as Entry, on, complete, around, finished, inside, some, behind, sided, state_number, is, allowed, moved, long, given, lacking, over, parens, tried, run}
+use Rattle.book_grammar.specs.Reading.{Reading, Open as Entry, on, complete, around, finished, inside, some, behind, sided, is, allowed, moved, long, given, lacking, over, tried}
 use Rattle.book_grammar.specs.Reading.Open.{paren}
 use Rattle.book_grammar.specs.Reading.State.{left, term, after}
-use Rattle.book_grammar.specs.Reading.Step.{stops, goes}
+use Rattle.book_grammar.specs.Reading.Step.{stops}
 use Rattle.book_grammar.proofs.Free.{sided_last}
 use Rattle.book_text.specs.declared.parser.Parser.{Parser}
 use Rattle.book_text.specs.declared.parser.Stack.{Stack}
@@ -21,18 +21,18 @@ use Rattle.book_text.specs.declared.parser.Span.{Span}
 use Rattle.book_text.specs.declared.parser.Label.{Label}
 use Rattle.book_text.specs.declared.parser.Open.{Open}
 use Rattle.book_text.specs.declared.parser.State.{State}
-use Rattle.book_text.specs.declared.parser.State.TheVariants.{Outside, Title, Brace, Left, Equal, Term, Point, After}
+use Rattle.book_text.specs.declared.parser.State.TheVariants.{Left, Term, After}
 use Rattle.book_text.specs.Faults.{number_of, where_of}
 use Rattle.book_text.specs.Faults.Where.{offset_at}
-use Rattle.book_text.specs.Parsers.{state_of_stage, open_in, op_at, floor_of, opened_in, label_in, side_in, row_in, rows_view, rows_in, view}
+use Rattle.book_text.specs.Parsers.{floor_of, opened_in, label_in, side_in, rows_view, rows_in, view}
 use Rattle.book_text.specs.Stacks.{closed_rows}
-use Rattle.book_text.specs.Changes.{is_at, popped, closed, behind_term, waiting_on, Finished, Finishes, TooManyRows}
-use Rattle.book_text.specs.Steps.{Tidy, Poised, unnamed, unfinished, Sound, Steady, going_on, Leads}
+use Rattle.book_text.specs.Changes.{is_at, closed, waiting_on, Finished, Finishes, TooManyRows}
+use Rattle.book_text.specs.Steps.{Tidy, Sound, Steady, Leads}
 use Rattle.book_text.proofs.Finding.{no_label}
 use Rattle.book_text.proofs.Opened.{enclosing, opened_rest, opened_open, tidy_open, tidy_floor, floor_below, around_opened, parens_opened}
-use Rattle.book_text.proofs.Rowing.{nowhere, rows_push, rows_length, finished_opened, length_opened, put_rows}
+use Rattle.book_text.proofs.Rowing.{rows_push, finished_opened, length_opened, put_rows}
 use Rattle.book_text.proofs.Trying.{stop_2, stop_7, go_to, leads_to, over_places, over_room, over_parens}
-use Rattle.book_text.proofs.Viewing.{known, sides_long, places_long, rows_long, front_long, not_over, poised_at, modules_at, lent_at, told_at}
+use Rattle.book_text.proofs.Viewing.{known, places_long, rows_long, front_long, not_over, poised_at, modules_at, lent_at, told_at}
 use Rattle.book_text.proofs.Pushing.{with_stack}
 
 -- a parser with other names

@@ -1,9 +1,9 @@
 -- What a word that is tried leads to, by the tests that decide it.
-use Rattle.std.proofs.Common.{◌≡◌, ℕ, ◌+◌, ◌<◌, ◌≤◌, Bool, true, false, ◌||◌, ltb, List, [], ◌∷◌, length, Ok, Err, sym, refl, ap, ◌∙◌, subst}
+use Rattle.std.proofs.Common.{◌≡◌, ℕ, ◌+◌, ◌<◌, Bool, true, false, ltb, length, Ok, refl, ap, ◌∙◌}
 use Rattle.std.proofs.lemmas.Bool.{or_left, or_right, lt-ltb}
-use Rattle.book_words.specs.Words.{Kind, Word}
+use Rattle.book_words.specs.Words.{Kind}
 use Rattle.book_words.specs.Words.Kind.{alien, bad}
-use Rattle.book_grammar.specs.Reading.{Reading, Step, is, allowed, moved, long, given, lacking, over, begun, parens, smallest, tried, run}
+use Rattle.book_grammar.specs.Reading.{Reading, Step, is, allowed, moved, long, given, lacking, over, begun, parens, smallest, tried}
 use Rattle.book_grammar.specs.Reading.Step.{stops, goes}
 use Rattle.book_text.specs.declared.parser.Parser.{Parser}
 use Rattle.book_text.specs.Steps.{Steady, going_on, Leads}

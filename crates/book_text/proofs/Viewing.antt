@@ -1,18 +1,18 @@
 -- What a steady parser stands for.
-use Rattle.std.proofs.Common.{◌≡◌, ℕ, ◌+◌, ◌-◌, ◌<◌, ◌≤◌, Bool, true, false, ◌||◌, eqb, List, [], ◌∷◌, ◌++◌, map, length, take, drop, sym, refl, ap, ◌∙◌, subst, arith}
+use Rattle.std.proofs.Common.{◌≡◌, ℕ, ◌+◌, ◌≤◌, true, false, eqb, List, map, length, take, sym, refl, ap, ◌∙◌, subst, arith}
 use Rattle.std.proofs.lemmas.List.{length-map, length-take-le}
 use Rattle.rows.specs.declared.row.Place.{Place}
 use Rattle.rows.specs.declared.row.ModuleRow.{ModuleRow}
-use Rattle.book_grammar.specs.Reading.{Reading, State as Stage, state_number, over, begun, parens, on}
+use Rattle.book_grammar.specs.Reading.{State as Stage, state_number, over, begun}
 use Rattle.book_grammar.specs.Reading.State.{outside, title, brace, left, equal, term, point, after}
 use Rattle.book_grammar.proofs.Bounds.{Bounds, within_bounds}
 use Rattle.book_grammar.proofs.Viable.{state_is}
 use Rattle.book_text.specs.declared.parser.Parser.{Parser}
 use Rattle.book_text.specs.declared.parser.State.{State}
 use Rattle.book_text.specs.declared.parser.State.TheVariants.{Outside, Title, Brace, Left, Equal, Term, Point, After}
-use Rattle.book_text.specs.Parsers.{state_of_stage, opened_in, label_in, side_in, rows_view, rows_in, view}
+use Rattle.book_text.specs.Parsers.{state_of_stage, label_in, side_in, rows_view, rows_in, view}
 use Rattle.book_text.specs.Changes.{is_at, in_state}
-use Rattle.book_text.specs.Steps.{Poised, unnamed, unfinished, Sound, Steady}
+use Rattle.book_text.specs.Steps.{Poised, unnamed, unfinished, Steady}
 use Rattle.book_text.proofs.Opened.{parens_opened}
 use Rattle.book_text.proofs.Rowing.{rows_length, length_rows}
 

@@ -1,12 +1,11 @@
 -- How steps make a reading: what is left gives it.
-use Rattle.std.proofs.Common.{◌≡◌, ℕ, suc, ◌+◌, ◌<◌, ◌≤◌, Bool, true, false, List, [], ◌∷◌, length, take, Ok, Err, Result, sym, refl, ap, ◌∙◌, subst, arith}
+use Rattle.std.proofs.Common.{◌≡◌, ℕ, ◌+◌, ◌≤◌, Bool, true, false, List, [], length, take, Ok, Err, Result, sym, refl, ap, ◌∙◌, subst, arith}
 use Rattle.rows.specs.declared.row.Place.{Place}
 use Rattle.rows.specs.declared.row.ModuleRow.{ModuleRow}
 use Rattle.book_words.specs.Words.{Kind, Word, words}
-use Rattle.book_words.specs.Shown.{kind_of, word_of, words_at, Cut}
+use Rattle.book_words.specs.Shown.{kind_of, words_at, Cut}
 use Rattle.book_words.specs.declared.word.Found.{Found}
-use Rattle.book_grammar.specs.Reading.{Reading, Read, run, reading, tried, blank_reading}
-use Rattle.book_grammar.specs.Reading.Step.{stops, goes}
+use Rattle.book_grammar.specs.Reading.{Reading, Read, run, reading, tried}
 use Rattle.book_grammar.specs.Reading.{Step}
 use Rattle.book_grammar.specs.Reading.Read.{refused, taken}
 use Rattle.book_text.specs.declared.fault.BookFault.{BookFault}
@@ -16,8 +15,8 @@ use Rattle.book_text.specs.Faults.{number_of, Where, where_of}
 use Rattle.book_text.specs.Faults.Where.{offset_at}
 use Rattle.book_text.specs.Parsers.{view}
 use Rattle.book_text.specs.Changes.{is_at}
-use Rattle.book_text.specs.Steps.{Sound, Steady, going_on, Leads, Blank}
-use Rattle.book_text.specs.Outcomes.{Outcome, judged_read}
+use Rattle.book_text.specs.Steps.{Steady, going_on, Leads, Blank}
+use Rattle.book_text.specs.Outcomes.{judged_read}
 use Rattle.book_text.specs.Outcomes.Outcome.{turned_away}
 use Rattle.book_text.proofs.Viewing.{known, told_at}
 

@@ -1,7 +1,6 @@
 -- Rows that are zeroed from a number on.
-use Rattle.std.proofs.Common.{◌≡◌, ℕ, ◌+◌, ◌-◌, ◌<◌, ◌≤◌, ◌⊎◌, List, [], ◌∷◌, ◌++◌, length, take, drop, set, replicate, sym, refl, ap, ◌∙◌, subst, inl, inr, arith, length-drop}
-use Rattle.std.proofs.lemmas.List.{length-set, take-set-le, take_more_set, drop-set-add, replicate_more, length-replicate, take_all, drop_all}
-use Rattle.std.proofs.lemmas.Bool.{cases_lt}
+use Rattle.std.proofs.Common.{◌≡◌, ℕ, ◌+◌, ◌-◌, ◌<◌, ◌≤◌, List, [], ◌∷◌, ◌++◌, length, take, drop, set, replicate, sym, refl, ap, ◌∙◌, arith, length-drop}
+use Rattle.std.proofs.lemmas.List.{length-set, take-set-le, take_more_set, drop-set-add, replicate_more, length-replicate, take_all}
 
 module _ {A : Type 0} (z : A) (from : ℕ) (xs₀ : List A) where
   pub record Zeroing (xs : List A) (i : ℕ) : Type 0 where

@@ -1,5 +1,5 @@
 -- Texts worked out by the definitions, up to the opening of their rows. Assumes nothing.
-use Rattle.std.specs.Prelude.{◌≡◌, List, [], ◌∷◌, pos, codes}
+use Rattle.std.specs.Prelude.{◌≡◌, [], ◌∷◌, pos, codes}
 use Rattle.rows.specs.declared.row.Place.TheVariants.{Act, Wait, Name}
 use Rattle.book_grammar.specs.Examples.{module_from}
 use Rattle.book_text.specs.Faults.Where.{offset_at, place_at}

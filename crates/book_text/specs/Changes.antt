@@ -1,7 +1,6 @@
 -- What a parser becomes. Assumes nothing.
-use Rattle.std.specs.Prelude.{◌≡◌, ℕ, zero, suc, ◌+◌, ◌-◌, ◌<◌, ◌≤◌, Bool, true, false, ◌⊎◌, List, [], ◌∷◌, ◌++◌, length, take, Ok, Err, Result, ◌==◌}
+use Rattle.std.specs.Prelude.{◌≡◌, ℕ, ◌+◌, ◌-◌, ◌<◌, ◌≤◌, Bool, ◌⊎◌, List, length, take, Ok, Err, Result, ◌==◌}
 use Rattle.rows.specs.declared.row.Place.{Place}
-use Rattle.rows.specs.declared.row.ModuleRow.{ModuleRow}
 use Rattle.book_grammar.specs.Numbers.{most_places}
 use Rattle.book_grammar.specs.Reading.{state_number}
 use Rattle.book_text.specs.declared.fault.BookFault.{BookFault}

@@ -3,7 +3,6 @@ use Rattle.std.specs.Prelude.{ℕ}
 use Rattle.rows.specs.Faults.{refusal_number, part_of, place_of}
 use Rattle.book_text.specs.declared.fault.BookFault.{BookFault}
 use Rattle.book_text.specs.declared.fault.BookFault.TheVariants.{Word, NotAllowed, GivenBefore, NoEquation, TooMany, Rows}
-use Rattle.book_text.specs.declared.fault.WordFault.{WordFault}
 use Rattle.book_text.specs.declared.fault.WordFault.TheVariants.{Alien, Port, Long}
 
 abbrev pub number_of : BookFault → ℕ

@@ -1,5 +1,5 @@
 -- The first name in a list that is the same as another. Assumes nothing.
-use Rattle.std.specs.Prelude.{ℕ, suc, ◌+◌, Bool, true, false, List, [], ◌∷◌, Some, None, Option}
+use Rattle.std.specs.Prelude.{ℕ, ◌+◌, true, false, List, [], ◌∷◌, Some, None, Option}
 use Rattle.book_words.specs.Words.{same}
 
 -- its number, if there is one; the list's first has the number i

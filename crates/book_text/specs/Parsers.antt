@@ -1,10 +1,9 @@
 -- What a parser and the lent rows stand for: a reading in progress. Assumes nothing.
-use Rattle.std.specs.Prelude.{◌≡◌, ℕ, zero, suc, ◌+◌, ◌-◌, ◌<◌, ◌≤◌, Bool, true, false, List, [], ◌∷◌, ◌++◌, map, length, take, drop, slice_index, slice_index_or}
+use Rattle.std.specs.Prelude.{ℕ, zero, suc, ◌+◌, ◌-◌, List, [], ◌∷◌, ◌++◌, map, take, drop, slice_index, slice_index_or}
 use Rattle.rows.specs.declared.row.Place.{Place}
 use Rattle.rows.specs.declared.row.Place.TheVariants.{Nil, Act, Wait, Sum, Name}
 use Rattle.rows.specs.declared.row.ModuleRow.{ModuleRow}
 use Rattle.book_text.specs.declared.parser.Parser.{Parser}
-use Rattle.book_text.specs.declared.parser.Stack.{Stack}
 use Rattle.book_text.specs.declared.parser.Span.{Span}
 use Rattle.book_text.specs.declared.parser.Label.{Label}
 use Rattle.book_text.specs.declared.parser.Open.{Open}

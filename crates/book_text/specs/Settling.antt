@@ -1,5 +1,5 @@
 -- Names are led to the right sides of their equations. Assumes nothing.
-use Rattle.std.specs.Prelude.{◌≡◌, ℕ, ◌+◌, Bool, true, false, not, List, [], ◌∷◌, ◌++◌, map, length, take, drop, Some, None, Option}
+use Rattle.std.specs.Prelude.{◌≡◌, ℕ, ◌+◌, Bool, true, false, List, ◌++◌, map, take, Some, None, Option}
 use Rattle.action.specs.Lists.{any}
 use Rattle.rows.specs.declared.row.Place.{Place}
 use Rattle.book_grammar.specs.Rows.{Row, Side, settled}

@@ -1,12 +1,12 @@
 -- What one word does to a parser and the lent rows. Assumes nothing.
-use Rattle.std.specs.Prelude.{◌≡◌, ℕ, zero, suc, ◌+◌, ◌-◌, ◌<◌, ◌≤◌, true, false, List, [], ◌∷◌, length, Ok, Err, Result, slice_index}
+use Rattle.std.specs.Prelude.{◌≡◌, ℕ, zero, suc, ◌+◌, ◌<◌, ◌≤◌, true, false, List, length, Ok, Err, Result, slice_index}
 use Rattle.rows.specs.declared.row.Place.{Place}
 use Rattle.rows.specs.declared.row.ModuleRow.{ModuleRow}
 use Rattle.book_words.specs.Words.{Kind, Word}
 use Rattle.book_grammar.specs.Numbers.{most_modules, most_equations, most_places, most_parentheses}
 use Rattle.book_grammar.specs.Reading.{Reading, Step, Read, tried, run, blank_reading}
 use Rattle.book_grammar.specs.Reading.Step.{stops, goes}
-use Rattle.book_grammar.specs.Reading.Read.{refused, taken}
+use Rattle.book_grammar.specs.Reading.Read.{refused}
 use Rattle.book_text.specs.declared.fault.BookFault.{BookFault}
 use Rattle.book_text.specs.declared.fault.BookFault.TheVariants.{NotAllowed}
 use Rattle.book_text.specs.declared.parser.Parser.{Parser}

@@ -1,4 +1,6 @@
 // Reading a book's text into lent rows.
+#![tactic(auto)]
+
 mod fault;
 mod names;
 mod parser;

@@ -1,5 +1,5 @@
 -- What the words of the word reader stand for. Assumes nothing.
-use Rattle.std.specs.Prelude.{◌≡◌, ℕ, suc, ◌-◌, ◌<◌, ◌≤◌, Bool, true, false, List, [], ◌∷◌, length, take, drop, Some, None, Option}
+use Rattle.std.specs.Prelude.{◌≡◌, ℕ, suc, ◌-◌, ◌<◌, ◌≤◌, Bool, List, [], ◌∷◌, length, take, drop, Some, None, Option}
 use Rattle.book_words.specs.Words.{Kind, blank, digit, alnum, words_from, Word as SpecWord}
 use Rattle.book_words.specs.declared.reader.Class.{Class}
 use Rattle.book_words.specs.declared.reader.Class.TheVariants.{Blank, Digit, Alnum}

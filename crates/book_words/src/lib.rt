@@ -1,4 +1,6 @@
 // The words of a book's text.
+#![tactic(auto)]
+
 mod reader;
 mod word;
 

@@ -1,9 +1,9 @@
 -- Adding pairs to the rows, one step after another. Assumes nothing.
-use Rattle.std.proofs.Common.{◌≡◌, ℕ, zero, suc, ◌+◌, ◌-◌, ◌<◌, ◌≤◌, Bool, true, false, eqb, ltb, ◌⊎◌, List, [], ◌∷◌, ◌++◌, length, get_or, take, drop, set, ℤ, Some, None, Option, sym, refl, ap, ◌∙◌, subst, inl, inr, add-one, arith, w8, SFits, to_z, of_z}
+use Rattle.std.proofs.Common.{◌≡◌, ℕ, zero, suc, ◌+◌, ◌-◌, ◌<◌, ◌≤◌, Bool, true, false, eqb, ◌⊎◌, List, [], ◌∷◌, ◌++◌, length, get_or, take, drop, set, ℤ, Some, None, Option, sym, refl, ap, ◌∙◌, subst, inl, inr, arith, w8, SFits, to_z, of_z}
 use Rattle.std.proofs.lemmas.Int.{to_z-of_z}
-use Rattle.std.proofs.lemmas.List.{take_more_set, take_more, take_all, drop-set-lt, length-set, drop-drop, at_drop_more, at_drop_all, get_or-set_same, get_or-set_other, length-append, take-append-le, get_or_past}
+use Rattle.std.proofs.lemmas.List.{take_more_set, take_more, take_all, drop-set-lt, drop-drop, at_drop_more, at_drop_all, get_or-set_same, get_or-set_other, length-append, take-append-le, get_or_past}
 use Rattle.std.proofs.lemmas.Bool.{cases_eq, cases_Bool, cases_lt, lt-ltb, le-ltb, ne_eqb, eq-eqb}
-use Rattle.action.specs.Lists.{◌∈◌, nth, each}
+use Rattle.action.specs.Lists.{nth, each}
 use Rattle.action.specs.Action.{same}
 use Rattle.action.proofs.Basics.{T_true, true_T}
 use Rattle.action.proofs.Sets.{same_eq, eq_same}
@@ -12,10 +12,10 @@ use Rattle.catalogue.specs.Catalogue.{Module, Lawful, absent as no_module, state
 use Rattle.pair_table.specs.declared.PairRow.{PairRow}
 use Rattle.pair_table.specs.declared.CompareFault.{CompareFault}
 use Rattle.pair_table.specs.declared.CompareFault.TheVariants.{TableTooSmall}
-use Rattle.pair_table.specs.Pairs.{Pair, pair, among, added, alike, by_moves, both_tick, leads_to, explored, most_rows}
+use Rattle.pair_table.specs.Pairs.{Pair, pair, added, alike, by_moves, both_tick, leads_to, explored, most_rows}
 use Rattle.pair_table.specs.Tables.{room}
 use Rattle.pair_table.specs.Laws.{row}
-use Rattle.pair_table.proofs.Adding.{nil_pair, Begins, begins_same, begins_on, one_more, one_more_there, one_more_new, added_begins, added_append}
+use Rattle.pair_table.proofs.Adding.{nil_pair, Begins, one_more_there, one_more_new, added_begins, added_append}
 use Rattle.pair_table.proofs.Leads.{alike_same, alike_other}
 use Rattle.pair_table.proofs.Explored.{explored_begins}
 use Rattle.compare.specs.declared.comparing.Index.{Index}

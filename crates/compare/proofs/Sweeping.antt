@@ -1,20 +1,20 @@
 -- A sweep lowers ranks and keeps them fair, and where none falls every row is steady. Assumes nothing.
-use Rattle.std.proofs.Common.{◌≡◌, ℕ, zero, suc, ◌+◌, ◌-◌, ◌^◌, ◌<◌, ◌≤◌, Bool, true, false, cond, eqb, ◌⊎◌, List, [], ◌∷◌, map, length, get_or, take, drop, set, sym, refl, ap, ◌∙◌, subst, inl, inr, arith}
+use Rattle.std.proofs.Common.{◌≡◌, ℕ, zero, suc, ◌+◌, ◌-◌, ◌^◌, ◌<◌, ◌≤◌, Bool, true, false, cond, eqb, ◌⊎◌, List, [], ◌∷◌, map, length, get_or, take, set, sym, refl, ap, ◌∙◌, subst, inl, inr, arith}
 use lib.ListN.{get_or-map}
-use Rattle.std.proofs.lemmas.List.{get_or-set_same, get_or-set_other, length-set, length-map, drop-set-lt}
+use Rattle.std.proofs.lemmas.List.{get_or-set_same, get_or-set_other, length-map, drop-set-lt}
 use Rattle.std.proofs.lemmas.Bool.{cases_eq, ne_eqb, eq-eqb}
 use Rattle.action.specs.Lists.{◌∈◌}
 use Rattle.catalogue.specs.declared.Move.{Move}
-use Rattle.catalogue.specs.Catalogue.{Module, state}
+use Rattle.catalogue.specs.Catalogue.{Module}
 use Rattle.pair_table.specs.declared.PairRow.{PairRow}
 use Rattle.pair_table.specs.Pairs.{Pair, pair}
 use Rattle.pair_table.specs.Rounds.{round, rank}
 use Rattle.pair_table.specs.Laws.{row}
 use Rattle.compare.specs.declared.comparing.Index.{Index}
-use Rattle.compare.specs.Rows.{Is, pair_of, pairs_of}
+use Rattle.compare.specs.Rows.{pair_of, pairs_of}
 use Rattle.compare.specs.Indexed.{Indexed, Last, bucket_of, row_bucket}
-use Rattle.compare.specs.Growth.{Unranked, Fresh}
-use Rattle.compare.specs.Ranks.{Lasts, Sooner, HoldsAll, GoneOne, TickHolds, TickGone, Steady, Fails, JudgedRow, total, missing, unranked, heavy, weight, Fair, Alike, SteadyFrom, Swept}
+use Rattle.compare.specs.Growth.{Fresh}
+use Rattle.compare.specs.Ranks.{Lasts, Sooner, HoldsAll, GoneOne, TickHolds, TickGone, Steady, Fails, JudgedRow, total, missing, unranked, heavy, weight, Fair, Alike, Swept}
 use Rattle.compare.proofs.Ranking.{fails_sound, steady_ranked}
 
 -- ── rows with the same pairs ──

@@ -1,17 +1,17 @@
 -- From the explored and ranked rows to the answer and the table at exit. Assumes nothing.
-use Rattle.std.proofs.Common.{◌≡◌, ℕ, zero, suc, ◌+◌, ◌<◌, ◌≤◌, min, Bool, true, false, ltb, leb, List, [], ◌∷◌, ◌++◌, map, length, get_or, take, drop, Some, None, Ok, Err, Option, Result, sym, refl, ap, ◌∙◌, subst, inl, inr, arith, MatchResult}
+use Rattle.std.proofs.Common.{◌≡◌, ℕ, zero, suc, ◌<◌, ◌≤◌, Bool, true, false, ltb, List, [], ◌∷◌, map, length, get_or, take, drop, Some, None, Ok, Err, Result, sym, refl, ap, ◌∙◌, subst, arith, MatchResult}
 use Rattle.std.specs.Option.{option_map}
 use Rattle.std.proofs.lemmas.List.{take_at, length-map, length-take-le}
 use Rattle.std.proofs.lemmas.Bool.{lt-ltb, le-ltb, le-leb, lt-leb}
 use Rattle.action.specs.Lists.{nth}
-use Rattle.catalogue.specs.Catalogue.{Catalogue, Module, Lawful, start_of, module_in, absent}
+use Rattle.catalogue.specs.Catalogue.{Catalogue, Module, Lawful, start_of, module_in}
 use Rattle.pair_table.specs.declared.PairRow.{PairRow}
 use Rattle.pair_table.specs.declared.Compared.{Compared}
 use Rattle.pair_table.specs.declared.CompareFault.{CompareFault}
 use Rattle.pair_table.specs.declared.CompareFault.TheVariants.{UnknownOld, UnknownNew, TableTooSmall}
 use Rattle.pair_table.specs.Pairs.{Pair, pair, starts, explored, rows, pair_count, added, most_rows}
 use Rattle.pair_table.specs.Rounds.{rank, first_rank}
-use Rattle.pair_table.specs.Tables.{room, suffices, verdict, answer, table_after, row_of, laid, filled, cut_short}
+use Rattle.pair_table.specs.Tables.{room, suffices, verdict, answer, table_after, row_of, filled, cut_short}
 use Rattle.pair_table.specs.Laws.{row, Judges, Refuses, Overflows, Ordered}
 use Rattle.pair_table.specs.Cases.{Worked}
 use Rattle.pair_table.proofs.Explored.{explored_begins}
@@ -20,7 +20,7 @@ use Rattle.pair_table.proofs.Compose.{ordered}
 use Rattle.pair_table.proofs.Worked.{worked}
 use Rattle.compare.specs.declared.comparing.Index.{Index}
 use Rattle.compare.specs.Rows.{pair_of, pairs_of}
-use Rattle.compare.specs.Growth.{Fresh, Grew, Full}
+use Rattle.compare.specs.Growth.{Grew, Full}
 use Rattle.compare.specs.Ranks.{Alike}
 use Rattle.compare.proofs.Rows.{rows_laid, length_pairs, pair_at}
 use Rattle.compare.proofs.Growing.{grew_on, grew_is, full_on, full_back}

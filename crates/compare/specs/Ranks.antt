@@ -1,6 +1,6 @@
 -- Ranks on the way to those of the rounds: a rank in a row says that the round of that number does not keep the row, and is
 -- lowered until each row has what the ranks of the others ask. Assumes nothing.
-use Rattle.std.specs.Prelude.{◌≡◌, ℕ, zero, suc, ◌+◌, ◌^◌, ◌<◌, ◌≤◌, Bool, true, false, cond, T, ◌⊎◌, List, map, length, drop, Some, ◌==◌}
+use Rattle.std.specs.Prelude.{◌≡◌, ℕ, zero, suc, ◌+◌, ◌^◌, ◌<◌, ◌≤◌, Bool, true, false, cond, T, ◌⊎◌, List, map, drop, Some, ◌==◌}
 use Rattle.action.specs.Lists.{◌∈◌}
 use Rattle.action.specs.Sets.{within}
 use Rattle.catalogue.specs.declared.Move.{Move}

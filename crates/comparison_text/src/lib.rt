@@ -1,4 +1,6 @@
 // What the program `bench` prints of a catalogue: its modules, compared.
+#![tactic(auto)]
+
 ghost use Rattle.std.specs.Prelude.{◌≡◌, length, IfOk, string_bytes};
 ghost use Rattle.action.specs.Lists.{each};
 ghost use Rattle.report.specs.Adding.{Added};

@@ -1,4 +1,6 @@
 // Shows the maker's table in the working folder: what it means, or why it is refused.
+#![tactic(auto)]
+
 use inspection::{FILE_NAME, inspect_table};
 use report::LONGEST_FILE;
 use std::fs::File;

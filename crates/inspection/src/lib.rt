@@ -1,4 +1,6 @@
 // What the program `inspect` prints.
+#![tactic(auto)]
+
 ghost use Rattle.std.specs.Prelude.{◌≡◌, IfOk, string_bytes};
 ghost use Rattle.inspection.specs.Inspected.{inspected};
 

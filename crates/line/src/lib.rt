@@ -1,4 +1,6 @@
 // Lines of modules: drawing one, swapping a module in one, and what time does in one.
+#![tactic(auto)]
+
 mod lines;
 
 pub use lines::{Line, SlotPlan, draw};

@@ -1,5 +1,5 @@
 -- Lines: modules side by side, each behind a renaming of its ports, with some ports hidden. Assumes nothing.
-use Rattle.std.specs.Prelude.{◌≡◌, ℕ, ◌<◌, ◌≤◌, Bool, true, T, ◌≢◌, ◌⊎◌, List, [], map, length, set, ℤ, pos, slice_index, slice_index_or, slice_set, unsigned_abs}
+use Rattle.std.specs.Prelude.{◌≡◌, ℕ, ◌<◌, ◌≤◌, Bool, true, T, ◌≢◌, ◌⊎◌, List, [], map, length, ℤ, pos, slice_index, slice_index_or, slice_set, unsigned_abs}
 use Rattle.action.specs.Action.{internal, last_port, Opposite}
 use Rattle.action.specs.declared.set.ActionSet.{ActionSet}
 use Rattle.action.specs.Sets.{has, ◌∋◌}

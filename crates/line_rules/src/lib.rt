@@ -1,4 +1,6 @@
 // What a line is and does, and what is answered of it: the words of drawing, swapping and the time question.
+#![tactic(auto)]
+
 ghost use Rattle.std.specs.Prelude.{◌≡◌};
 ghost use Rattle.line_rules.specs.declared.DrawFault.TheVariants.{Renaming};
 ghost use Rattle.line_rules.specs.declared.SwapFault.TheVariants.{Compare};

@@ -1,4 +1,6 @@
 // Makers' tables, taken as catalogues.
+#![tactic(auto)]
+
 ghost use Rattle.std.specs.Prelude.{◌≡◌, ◌+◌, ◌≤◌, length};
 ghost use Rattle.table_format.specs.Numbers.{pair};
 

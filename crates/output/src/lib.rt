@@ -1,4 +1,6 @@
 // What the programs `bench` and `swaps` print of the two files that they read: a planner's book and a maker's table.
+#![tactic(auto)]
+
 ghost use Rattle.std.specs.Prelude.{◌≡◌, length, IfOk, string_bytes, ◌≢◌};
 ghost use Rattle.catalogue.specs.Layers.{joined};
 ghost use Rattle.rows.specs.Opening.{opened};

@@ -1,14 +1,14 @@
 -- The test of the three clauses says what the clauses say. Assumes nothing.
-use Rattle.std.proofs.Common.{◌≡◌, ℕ, zero, suc, ◌<◌, ◌≤◌, Bool, true, false, not, ◌&&◌, T, eqb, ◌⊎◌, List, [], ◌∷◌, ℤ, is_some, Some, None, Option, sym, refl, ap, ◌∙◌, subst, inl, inr, arith, eqb→eq}
+use Rattle.std.proofs.Common.{◌≡◌, ℕ, Bool, not, ◌&&◌, T, eqb, List, ℤ, is_some, Some, None, Option, sym, refl, ap, subst, eqb→eq}
 use lib.Dec.{eqb_refl}
-use Rattle.action.specs.Lists.{◌∈◌, any, all}
+use Rattle.action.specs.Lists.{◌∈◌, any}
 use Rattle.action.specs.Action.{same}
 use Rattle.action.specs.Sets.{within}
 use Rattle.catalogue.specs.declared.Move.{Move}
 use Rattle.catalogue.specs.Catalogue.{Module, State, state, move}
 use Rattle.pair_table.specs.Pairs.{Pair, pair, among}
 use Rattle.pair_table.specs.Rounds.{answered, in_step, keeps}
-use Rattle.action.proofs.Basics.{and_l, and_r, and_i, any_some, some_any, all_each, each_all, eq-eqb}
+use Rattle.action.proofs.Basics.{and_l, and_r, and_i, any_some, some_any, all_each, each_all}
 use Rattle.action.proofs.Sets.{same_eq, eq_same}
 
 pub among_in : (rows : List Pair) (p q : ℕ) → T (among rows p q) → pair p q ∈ rows

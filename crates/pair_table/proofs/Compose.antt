@@ -1,5 +1,5 @@
 -- Strong faster-than relations compose, and each module has one to itself. Assumes nothing.
-use Rattle.std.proofs.Common.{◌≡◌, ℕ, zero, suc, ◌<◌, ◌≤◌, Bool, ◌&&◌, ◌||◌, T, eqb, ltb, ◌⊎◌, length, subst, inl, inr, arith, eqb→eq, ltb→lt, lt→ltb}
+use Rattle.std.proofs.Common.{◌≡◌, ℕ, zero, suc, ◌<◌, ◌≤◌, Bool, ◌&&◌, ◌||◌, T, eqb, ltb, ◌⊎◌, subst, inl, inr, arith, eqb→eq, ltb→lt, lt→ltb}
 use lib.Dec.{eqb_refl}
 use Rattle.action.specs.Lists.{below}
 use Rattle.action.proofs.Basics.{and_l, and_r, and_i, or_cases, or_l, or_r, le_split}

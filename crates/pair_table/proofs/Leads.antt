@@ -1,5 +1,5 @@
 -- The pairs that a pair leads to are those of moves by one action and of ticks. Assumes nothing.
-use Rattle.std.proofs.Common.{◌≡◌, ℕ, Bool, true, false, T, ◌⊎◌, List, [], ◌∷◌, ◌++◌, ℤ, Some, None, Option, sym, refl, ap, ◌∙◌, subst, inl, inr}
+use Rattle.std.proofs.Common.{◌≡◌, ℕ, Bool, true, false, T, ◌⊎◌, List, [], ◌∷◌, ℤ, Some, None, Option, sym, refl, ap, subst, inl, inr}
 use Rattle.action.specs.Lists.{◌∈◌, each}
 use Rattle.action.specs.Action.{same}
 use Rattle.action.proofs.Basics.{in_left, in_right, in_cases, in_each, T_true}

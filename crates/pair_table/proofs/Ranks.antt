@@ -1,6 +1,5 @@
 -- What a pair's rank is: 0 where every round keeps the pair, else the first round that does not. Assumes nothing.
-use Rattle.std.proofs.Common.{◌≡◌, ℕ, zero, suc, ◌+◌, ◌<◌, ◌≤◌, Bool, true, false, not, T, ◌⊎◌, List, [], ◌∷◌, length, sym, refl, ap, ◌∙◌, subst, inl, inr, arith, T_not}
-use lib.Dec.{not_T}
+use Rattle.std.proofs.Common.{◌≡◌, ℕ, zero, suc, ◌+◌, ◌<◌, ◌≤◌, Bool, true, false, not, T, ◌⊎◌, List, [], ◌∷◌, length, sym, refl, subst, inl, inr, arith, T_not}
 use Rattle.action.specs.Lists.{◌∈◌, first}
 use Rattle.action.proofs.Basics.{T_either, T_true, le_split, first_none, none_first}
 use Rattle.catalogue.specs.Catalogue.{Module}

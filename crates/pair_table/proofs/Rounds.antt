@@ -1,15 +1,15 @@
 -- The rounds settle within as many rounds as there are rows; what is left then keeps the clauses, and no pair that a strong
 -- faster-than relation holds is ever dropped. Assumes nothing.
-use Rattle.std.proofs.Common.{◌≡◌, ℕ, zero, suc, ◌<◌, ◌≤◌, Bool, true, false, T, ◌⊎◌, List, [], ◌∷◌, length, ℤ, Some, sym, refl, ap, ◌∙◌, subst, inl, inr, arith}
+use Rattle.std.proofs.Common.{◌≡◌, ℕ, zero, suc, ◌<◌, ◌≤◌, Bool, true, false, T, ◌⊎◌, List, [], ◌∷◌, length, sym, refl, ap, ◌∙◌, subst, inl, inr, arith}
 use Rattle.std.proofs.lemmas.Bool.{cases_lt}
 use Rattle.action.specs.Lists.{◌∈◌, kept}
 use Rattle.action.proofs.Basics.{kept_all, kept_in, in_kept, pass_or_fewer, le_split}
 use Rattle.action.proofs.Relations.{within_has, has_within}
-use Rattle.catalogue.specs.Catalogue.{Module, state, move}
+use Rattle.catalogue.specs.Catalogue.{Module, state}
 use Rattle.catalogue.specs.Systems.{System, running, Clauses, FasterThan}
 use Rattle.pair_table.specs.Pairs.{Pair, pair, among, leads_to}
 use Rattle.pair_table.specs.Rounds.{keeps, refined, round}
-use Rattle.pair_table.proofs.Clause.{among_in, in_among, answered_by, by_answers, in_step_means, means_in_step, Kept, kept_parts, parts_kept}
+use Rattle.pair_table.proofs.Clause.{in_among, answered_by, by_answers, in_step_means, means_in_step, Kept, kept_parts, parts_kept}
 use Rattle.pair_table.proofs.Leads.{leads_moves, leads_ticks}
 use Rattle.pair_table.proofs.Explored.{Closed}
 

@@ -1,13 +1,12 @@
 -- Where the table suffices, its rows judge the modules. Assumes nothing.
-use Rattle.std.proofs.Common.{◌≡◌, ℕ, zero, suc, ◌<◌, ◌≤◌, Bool, true, false, ◌&&◌, ◌||◌, T, eqb, ◌⊎◌, ◌↔◌, List, [], ◌∷◌, map, length, get_or, take, sym, refl, ap, ◌∙◌, subst, inl, inr, arith, eqb→eq}
-use lib.Dec.{eqb_refl}
+use Rattle.std.proofs.Common.{◌≡◌, ℕ, zero, suc, ◌<◌, ◌≤◌, Bool, ◌&&◌, ◌||◌, T, eqb, ◌⊎◌, List, [], ◌∷◌, map, length, get_or, take, sym, refl, ap, ◌∙◌, subst, inl, inr, arith, eqb→eq}
 use Rattle.std.proofs.lemmas.List.{length-map, get_or-map, get_or-take, length-take-le}
-use Rattle.action.specs.Lists.{◌∈◌, any}
+use Rattle.action.specs.Lists.{◌∈◌}
 use Rattle.action.proofs.Basics.{and_l, and_r, and_i, or_cases, or_l, or_r, eq-eqb}
 use Rattle.catalogue.specs.Catalogue.{Module, Sound, codes, move}
-use Rattle.catalogue.specs.Systems.{running, Clauses, FasterThan, Ties, Tied}
+use Rattle.catalogue.specs.Systems.{running, FasterThan, Tied}
 use Rattle.pair_table.specs.declared.PairRow.{PairRow}
-use Rattle.pair_table.specs.Pairs.{Pair, pair, starts, among, rows, pair_count, most_rows}
+use Rattle.pair_table.specs.Pairs.{Pair, pair, among, rows, pair_count, most_rows}
 use Rattle.pair_table.specs.Rounds.{round, rank, first_rank}
 use Rattle.pair_table.specs.Tables.{row_of, verdict}
 use Rattle.pair_table.specs.Laws.{Reached, at_start, by_move, by_tick, listed, lasting, row, Judges, Overflows}

@@ -2,7 +2,7 @@
 use Rattle.std.specs.Prelude.{◌≡◌, ℕ, ◌<◌, ◌≤◌, Bool, ◌&&◌, T, ◌↔◌, List, length, ℤ, ◌==◌, slice_index_or}
 use Rattle.action.specs.Lists.{any}
 use Rattle.catalogue.specs.Catalogue.{Catalogue, Module, module_in}
-use Rattle.catalogue.specs.Systems.{System, running, FasterThan, Tied}
+use Rattle.catalogue.specs.Systems.{running, FasterThan, Tied}
 use Rattle.pair_table.specs.declared.PairRow.{PairRow}
 use Rattle.pair_table.specs.declared.Compared.{Compared}
 use Rattle.pair_table.specs.declared.CompareFault.{CompareFault}

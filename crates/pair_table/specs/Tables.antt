@@ -1,5 +1,5 @@
 -- What a comparison answers, and what it leaves in the table that it is lent. Assumes nothing.
-use Rattle.std.specs.Prelude.{ℕ, min, Bool, true, false, ◌&&◌, List, ◌++◌, map, length, take, drop, Ok, Err, Result, nat_le, nat_lt}
+use Rattle.std.specs.Prelude.{ℕ, min, Bool, true, false, List, ◌++◌, map, length, take, drop, Ok, Err, Result, nat_le, nat_lt}
 use Rattle.catalogue.specs.Catalogue.{Catalogue, Module, module_in}
 use Rattle.pair_table.specs.declared.PairRow.{PairRow}
 use Rattle.pair_table.specs.declared.Compared.{Compared}

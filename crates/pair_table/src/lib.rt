@@ -1,4 +1,6 @@
 // The pair table of two modules: its rows, what a comparison answers, and why it refuses.
+#![tactic(auto)]
+
 ghost use Rattle.std.specs.Prelude.{◌≡◌};
 ghost use Rattle.pair_table.specs.Tables.{refusal_number};
 

@@ -1,4 +1,6 @@
 // What is printed of a catalogue, and of a file that is refused.
+#![tactic(auto)]
+
 mod words;
 
 pub use words::{ActionText, catalogue_text, fault_text, long_text};

@@ -1,20 +1,20 @@
 -- What the places of a module have is what the rules derive for their terms. Assumes nothing.
-use Rattle.std.proofs.Common.{◌≡◌, ℕ, zero, suc, ◌+◌, ◌*◌, ◌<◌, ◌≤◌, max, Bool, true, false, ◌&&◌, ◌||◌, T, ltb, leb, ◌≢◌, ◌⊎◌, List, [], ◌∷◌, ◌++◌, map, length, get_or, ℤ, nat_abs, sym, refl, ap, ◌∙◌, subst, inl, inr, arith}
+use Rattle.std.proofs.Common.{◌≡◌, ℕ, zero, suc, ◌<◌, ◌≤◌, true, ◌||◌, T, ltb, ◌⊎◌, List, ◌++◌, length, ℤ, nat_abs, sym, refl, ap, subst, inl, inr, arith}
 use Rattle.std.proofs.lemmas.Bool.{leb-true, ltb-true}
 use Rattle.catalogue.specs.declared.Move.{Move}
 use Rattle.action.specs.Lists.{◌∈◌}
-use Rattle.action.specs.Action.{internal, last_port, same}
+use Rattle.action.specs.Action.{internal, last_port}
 use Rattle.action.specs.Sets.{◌∋◌}
 use Rattle.catalogue.specs.Catalogue.{move}
 use Rattle.action.proofs.Basics.{in_left, in_right, in_cases, or_cases, or_l, or_r}
-use Rattle.action.proofs.Sets.{same_eq, eq_same, same_refl, set_passes, passes_set}
+use Rattle.action.proofs.Sets.{same_eq, eq_same, set_passes, passes_set}
 use Rattle.rows.specs.declared.row.Place.{Place}
 use Rattle.rows.specs.declared.row.Place.TheVariants.{Nil, Act, Wait, Sum, Name}
 use Rattle.rows.specs.Places.{code, row, ends_by, depth_by, moves_by, urgent_by, ends, depth_of, moves_of, is_urgent, urgent_of}
 use Rattle.rows.specs.Opening.{inside, by_action, WellFormed}
-use Rattle.rows.specs.Calculus.{Term, nil, act, wait, ◌⊕◌, name, Urgent, u_act, u_left, u_right, u_name, Moves, m_act, m_wait, m_left, m_right, m_name, Ticks, t_nil, t_act, t_wait, t_sum, t_name, right, equations, Residual, as_name, as_nil, as_act, as_wait, as_waited, as_sum, as_named}
+use Rattle.rows.specs.Calculus.{Term, nil, act, wait, ◌⊕◌, name, Urgent, u_act, u_left, u_right, Moves, m_act, m_wait, m_left, m_right, Ticks, t_nil, t_act, t_wait, t_sum, equations, Residual, as_name, as_nil, as_act, as_wait, as_waited, as_sum, as_named}
 use Rattle.rows.proofs.Fuel.{both_l, both_r, not_zero, ends_next, depth_rule, moves_rule, urgent_rule}
-use Rattle.rows.proofs.Inversion.{m_not_nil, m_of_act, m_of_wait, m_of_sum, u_not_nil, u_not_wait, u_of_act, u_of_sum, t_of_nil, t_of_act, t_of_wait, t_of_sum, urgent_moves, Shape, shape_of, Seen, seen}
+use Rattle.rows.proofs.Inversion.{m_not_nil, m_of_act, m_of_wait, m_of_sum, u_not_nil, u_not_wait, u_of_act, u_of_sum, t_of_nil, t_of_act, t_of_wait, t_of_sum, Shape, shape_of, seen}
 
 module _ (ps : List Place) (ok : WellFormed ps) where
   abbrev E : ℕ → Term

@@ -1,10 +1,9 @@
 -- Where a walk ends, what is followed through more places is the same; so the rules hold as equations. Assumes nothing.
-use Rattle.std.proofs.Common.{◌≡◌, ℕ, zero, suc, ◌+◌, ◌<◌, ◌≤◌, max, Bool, true, false, ◌&&◌, ◌||◌, ◌⊎◌, List, [], ◌∷◌, ◌++◌, length, ℤ, sym, refl, ap, ◌∙◌, subst, inl, inr, arith}
+use Rattle.std.proofs.Common.{◌≡◌, ℕ, zero, suc, ◌≤◌, max, Bool, true, false, ◌&&◌, ◌||◌, List, ◌++◌, ℤ, sym, refl, ap, ◌∙◌, arith}
 use Rattle.std.proofs.lemmas.Bool.{and_parts, and_from}
-use Rattle.catalogue.specs.declared.Move.{Move}
 use Rattle.rows.specs.declared.row.Place.{Place}
 use Rattle.rows.specs.declared.row.Place.TheVariants.{Nil, Act, Wait, Sum, Name}
-use Rattle.rows.specs.Places.{row, ends_by, depth_by, moves_by, urgent_by, waited, ends, depth, moves, urgent}
+use Rattle.rows.specs.Places.{row, ends_by, depth_by, moves_by, urgent_by, ends, depth, moves, urgent}
 
 pub both_l : (a b : Bool) → (a && b) ≡ true → a ≡ true
 both_l a b e = (and_parts a b e).0

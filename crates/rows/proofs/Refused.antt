@@ -7,8 +7,8 @@ use Rattle.rows.specs.declared.row.ModuleRow.{ModuleRow}
 use Rattle.rows.specs.declared.fault.RowsFault.{RowsFault}
 use Rattle.rows.specs.declared.fault.RowsFault.TheVariants.{ManyModules, ManyPlaces, BeyondRows, NoStart, Outside, NoAction, Unguarded, Deep, ManyMoves}
 use Rattle.rows.specs.Places.{ages, row, guarded, depth_of, moves_of}
-use Rattle.rows.specs.Opening.{book_modules, book_places, places_of, row_of, places_in, inside, by_action, first_failing, unless, unless_at, try_each, places_fault, module_fault, fault_from, fault}
-use Rattle.rows.specs.Walks.{ComesBack, TellsOfWalks}
+use Rattle.rows.specs.Opening.{book_modules, book_places, places_of, places_in, inside, by_action, first_failing, unless, unless_at, try_each, places_fault, module_fault, fault_from, fault}
+use Rattle.rows.specs.Walks.{TellsOfWalks}
 use Rattle.rows.proofs.Accepted.{none_fails, each_accepted}
 use Rattle.rows.proofs.Walks.{guarded_ends, unguarded_returns}
 

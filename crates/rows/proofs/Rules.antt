@@ -1,7 +1,6 @@
 -- The meaning of a module is what the rules derive, and it keeps the laws. Assumes nothing.
-use Rattle.std.proofs.Common.{◌≡◌, ℕ, zero, suc, ◌+◌, ◌*◌, ◌/◌, ◌%◌, ◌<◌, ◌≤◌, max, Bool, true, false, not, ◌&&◌, T, ltb, leb, ◌≢◌, ◌⊎◌, List, [], ◌∷◌, ◌++◌, map, length, get_or, ℤ, nat_abs, is_some, Some, None, Option, sym, refl, ap, ◌∙◌, subst, inl, inr, arith}
-use lib.ListN.{length-map, get_or-map}
-use Rattle.std.specs.List.{range_with_len}
+use Rattle.std.proofs.Common.{◌≡◌, ℕ, zero, suc, ◌*◌, ◌/◌, ◌%◌, ◌<◌, ◌≤◌, Bool, true, false, not, T, ltb, ◌⊎◌, List, [], ◌∷◌, map, length, get_or, ℤ, nat_abs, is_some, Some, None, Option, sym, refl, ap, ◌∙◌, subst, inl, inr, arith}
+use lib.ListN.{length-map}
 use Rattle.std.proofs.lemmas.Bool.{cases_lt, ltb-true, ltb-false}
 use Rattle.std.proofs.lemmas.List.{get_or_past}
 use Rattle.std.proofs.lemmas.List.FromFn.{length-map-range_with_len, get_or-map-range_with_len}
@@ -9,19 +8,18 @@ use Rattle.catalogue.specs.declared.Move.{Move}
 use Rattle.action.specs.Lists.{◌∈◌}
 use Rattle.action.specs.Action.{internal, last_port}
 use Rattle.action.specs.Sets.{has, ◌∋◌}
-use Rattle.catalogue.specs.Catalogue.{Catalogue, Module, State, Sound, Lawful, nowhere, absent, move, codes, state, module_in, most_moves, most_modules}
+use Rattle.catalogue.specs.Catalogue.{Catalogue, Module, State, Sound, Lawful, nowhere, absent, move, codes, state, module_in, most_moves}
 use Rattle.action.proofs.Basics.{T_true}
 use Rattle.action.proofs.Sets.{none_has}
 use Rattle.rows.specs.declared.row.Place.{Place}
 use Rattle.rows.specs.declared.row.ModuleRow.{ModuleRow}
 use Rattle.rows.specs.declared.fault.RowsFault.{RowsFault}
-use Rattle.rows.specs.declared.row.Place.TheVariants.{Wait}
-use Rattle.rows.specs.Places.{row, moves_by, ages, code, depth_of, moves_of, urgent_of, older, tick_of, state_of, module_of}
-use Rattle.rows.specs.Opening.{book_places, book_modules, places_of, module_at, fault, opened, WellFormed, row_of, places_in}
-use Rattle.rows.specs.Calculus.{Term, nil, act, wait, ◌⊕◌, t_nil, t_act, t_wait, t_sum, t_name, name, Urgent, Moves, Ticks, equations, Residual, as_name}
+use Rattle.rows.specs.Places.{moves_by, ages, code, depth_of, moves_of, urgent_of, older, tick_of, state_of, module_of}
+use Rattle.rows.specs.Opening.{book_places, book_modules, places_of, module_at, fault, opened, WellFormed, row_of}
+use Rattle.rows.specs.Calculus.{Term, ◌⊕◌, t_nil, t_act, t_wait, t_sum, t_name, name, Ticks, equations, Residual, as_name}
 use Rattle.rows.specs.Rules.{StandsFor, AsDerived, ByTheRules, BooksByTheRules, BooksLawful, WaitsDelayNothing, TimeDeterministic}
 use Rattle.rows.proofs.Inversion.{urgent_moves, t_of_nil, t_of_act, t_of_wait, t_of_sum, t_of_name}
-use Rattle.rows.proofs.Accepted.{Accepted, places_length, each_accepted}
+use Rattle.rows.proofs.Accepted.{places_length, each_accepted}
 use Rattle.rows.proofs.Derived.{led, leads, urged, urges, ticked, ticks, settled, termed, moves_is}
 
 not_T_of : (b : Bool) → b ≡ false → T b → ⊥

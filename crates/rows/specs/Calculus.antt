@@ -1,5 +1,5 @@
 -- The calculus by its own rules, and the terms that the states of a module stand for. Assumes nothing.
-use Rattle.std.specs.Prelude.{◌≡◌, ℕ, zero, suc, ◌≢◌, List, ℤ}
+use Rattle.std.specs.Prelude.{◌≡◌, ℕ, suc, ◌≢◌, List, ℤ}
 use Rattle.action.specs.Action.{internal}
 use Rattle.rows.specs.declared.row.Place.{Place}
 use Rattle.rows.specs.declared.row.Place.TheVariants.{Nil, Act, Wait, Sum, Name}

@@ -1,5 +1,5 @@
 -- Examples, worked out by the definitions. Assumes nothing.
-use Rattle.std.specs.Prelude.{◌≡◌, ℕ, zero, suc, List, [], ◌∷◌, pos, Some, None, Option}
+use Rattle.std.specs.Prelude.{◌≡◌, ℕ, zero, suc, List, [], ◌∷◌, pos, Some, None}
 use Rattle.action.specs.Sets.{members}
 use Rattle.catalogue.specs.Catalogue.{Module, state, module_in, codes, move}
 use Rattle.rows.specs.declared.row.Place.{Place}

@@ -1,5 +1,5 @@
 -- Opening rows as a catalogue: what is tried, in which order, and what opened rows mean. Assumes nothing.
-use Rattle.std.specs.Prelude.{◌≡◌, ℕ, zero, suc, ◌+◌, ◌<◌, ◌≤◌, Bool, true, false, ◌&&◌, ltb, leb, List, [], ◌∷◌, map, length, take, drop, ℤ, Some, None, Ok, Err, Option, Result, nat_le, nat_lt, slice_index_or}
+use Rattle.std.specs.Prelude.{◌≡◌, ℕ, zero, suc, ◌+◌, ◌<◌, ◌≤◌, Bool, true, false, ◌&&◌, ltb, leb, List, [], ◌∷◌, map, length, take, drop, Some, None, Ok, Err, Option, Result, nat_le, nat_lt, slice_index_or}
 use Rattle.action.specs.Action.{is_action}
 use Rattle.catalogue.specs.Catalogue.{Catalogue, Module, most_moves}
 use Rattle.rows.specs.declared.row.Place.{Place}

@@ -1,8 +1,8 @@
 -- That an opened book does what the rules of the calculus derive, and shows the laws. Assumes nothing.
-use Rattle.std.specs.Prelude.{◌≡◌, ℕ, ◌<◌, List, length, ℤ, Some, None, Option}
+use Rattle.std.specs.Prelude.{◌≡◌, ℕ, ◌<◌, List, length, ℤ, Some}
 use Rattle.action.specs.Lists.{◌∈◌}
 use Rattle.action.specs.Sets.{◌∋◌}
-use Rattle.catalogue.specs.Catalogue.{Catalogue, Module, Lawful, move, codes, state, module_in}
+use Rattle.catalogue.specs.Catalogue.{Module, Lawful, move, codes, state, module_in}
 use Rattle.rows.specs.declared.row.Place.{Place}
 use Rattle.rows.specs.declared.row.Place.TheVariants.{Wait}
 use Rattle.rows.specs.declared.row.ModuleRow.{ModuleRow}

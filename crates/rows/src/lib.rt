@@ -1,4 +1,6 @@
 // Rows of places: the form in which a book's modules are stored.
+#![tactic(auto)]
+
 mod fault;
 mod row;
 

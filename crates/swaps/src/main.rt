@@ -1,4 +1,6 @@
 // Draws a line of the first modules of the book and the maker's table in the working folder, and tries each module in each slot.
+#![tactic(auto)]
+
 use output::{BOOK_NAME, Request, TABLE_NAME, output_text};
 use report::LONGEST_FILE;
 use std::fs::File;

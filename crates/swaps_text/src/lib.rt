@@ -1,4 +1,6 @@
 // What the program `swaps` prints of a catalogue: a line of its first modules, and the swaps that are tried in it.
+#![tactic(auto)]
+
 ghost use Rattle.std.specs.Prelude.{◌≡◌, [], length, IfOk, Err, string_bytes, OnOk};
 ghost use Rattle.report.specs.Adding.{Added};
 ghost use Rattle.line.specs.Meaning.{line_of, Drawing};

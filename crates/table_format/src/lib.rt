@@ -1,4 +1,6 @@
 // The bytes of makers' tables: which are taken, which are refused and why, and what they mean.
+#![tactic(auto)]
+
 mod fault;
 mod number;
 mod trying;

@@ -1,5 +1,5 @@
 -- Summaries, followed through one place more in each round. Assumes nothing.
-use Rattle.std.proofs.Common.{◌≡◌, ℕ, zero, suc, ◌+◌, ◌<◌, min, max, Bool, true, ◌&&◌, ltb, List, [], ◌∷◌, ◌++◌, length, get_or, replicate, sym, refl, ap, ◌∙◌, arith, length-append}
+use Rattle.std.proofs.Common.{◌≡◌, ℕ, zero, suc, ◌+◌, ◌<◌, min, max, Bool, true, ◌&&◌, ltb, List, ◌++◌, length, get_or, replicate, sym, refl, ap, ◌∙◌, arith, length-append}
 use Rattle.std.proofs.lemmas.Bool.{ltb-true}
 use Rattle.catalogue.specs.Catalogue.{most_moves}
 use Rattle.rows.specs.declared.row.Place.{Place}

@@ -1,5 +1,5 @@
 -- One criterion over all places, then all criteria, then the module's row. Assumes nothing.
-use Rattle.std.proofs.Common.{◌≡◌, ℕ, zero, suc, ◌+◌, ◌-◌, ◌<◌, ◌≤◌, min, Bool, true, false, ltb, leb, List, length, get_or, IsErrAnd, Some, None, Ok, Err, Option, Result, sym, refl, ap, ◌∙◌, subst, arith}
+use Rattle.std.proofs.Common.{◌≡◌, ℕ, suc, ◌+◌, ◌-◌, ◌<◌, ◌≤◌, min, Bool, true, false, ltb, leb, List, length, get_or, IsErrAnd, Some, None, Ok, Err, Option, Result, sym, refl, ap, ◌∙◌, subst, arith}
 use Rattle.std.proofs.lemmas.Bool.{ltb-true, ltb-false, leb-true, leb-false, lt-ltb, le-ltb, le-leb, lt-leb}
 use Rattle.std.proofs.lemmas.Result.{err_from_is_err_and}
 use Rattle.catalogue.specs.Catalogue.{most_moves}
@@ -7,8 +7,8 @@ use Rattle.rows.specs.declared.row.Place.{Place}
 use Rattle.rows.specs.declared.row.ModuleRow.{ModuleRow}
 use Rattle.rows.specs.declared.fault.RowsFault.{RowsFault}
 use Rattle.rows.specs.declared.fault.RowsFault.TheVariants.{ManyModules, ManyPlaces, BeyondRows, NoStart}
-use Rattle.rows.specs.Places.{ages, row, guarded, depth_of, moves_of}
-use Rattle.rows.specs.Opening.{book_modules, book_places, places_of, inside, first_failing, unless, unless_at, places_fault, module_fault, verdict_of}
+use Rattle.rows.specs.Places.{ages, row, depth_of, moves_of}
+use Rattle.rows.specs.Opening.{book_modules, book_places, places_of, first_failing, unless, unless_at, places_fault, module_fault, verdict_of}
 use Rattle.rows.proofs.Accepted.{none_fails}
 use Rattle.trial.specs.declared.summary.Summary.{Summary}
 use Rattle.trial.specs.declared.trying.Criterion.{Criterion}

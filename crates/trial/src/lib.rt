@@ -1,4 +1,6 @@
 // Trying the rows of a module: each place for each criterion, with a summary of it.
+#![tactic(auto)]
+
 mod summary;
 mod trying;
 

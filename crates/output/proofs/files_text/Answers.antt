@@ -1,4 +1,4 @@
-use Rattle.std.proofs.Common.{vec_items, arith}
+use Rattle.std.proofs.Common.{vec_items}
 use Rattle.maker_table.specs.Table.{written}
 use Rattle.output.proofs.Shown.{fault_printed, answer_printed}
 use Rattle.output.proofs.files_text.Goals as goal

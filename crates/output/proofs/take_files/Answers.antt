@@ -1,4 +1,4 @@
-use Rattle.std.proofs.Common.{◌≡◌, ℕ, List, length, take, vec_items, sym, ◌∙◌, inl, inr, arith}
+use Rattle.std.proofs.Common.{length, take, vec_items, inr, arith}
 use Rattle.std.proofs.lemmas.Result.{err_from_is_err_and}
 use Rattle.maker_table.specs.Table.{written}
 use Rattle.output.proofs.Shown.{long_book, by_book, long_table, table_refused, both_taken}

@@ -1,4 +1,4 @@
-use Rattle.std.proofs.Common.{◌≡◌, sym, refl, ◌∙◌, arith, rules}
+use Rattle.std.proofs.Common.{sym, refl, ◌∙◌, arith, rules}
 use Rattle.book.proofs.Answering.{count_at_fault, count_is, its_row, its_part}
 use Rattle.book.proofs.Book.equations.Goals as goal
 

@@ -1,4 +1,4 @@
-use Rattle.std.proofs.Common.{◌≡◌, ℕ, ◌<◌, length, set, refl, ap, ◌∙◌, arith, length-set, rules}
+use Rattle.std.proofs.Common.{◌<◌, refl, ap, ◌∙◌, arith, length-set, rules}
 use Rattle.rows.specs.Opening.{row_of}
 use Rattle.rows.proofs.Accepted.{accepted}
 use Rattle.rows.proofs.Rules.{books_by_the_rules, waits_delay_nothing, time_deterministic}

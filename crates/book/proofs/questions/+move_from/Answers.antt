@@ -1,8 +1,8 @@
-use Rattle.std.proofs.Common.{◌≡◌, ℕ, ◌*◌, Some, ap, ◌∙◌, arith, w8, SFits, rules}
+use Rattle.std.proofs.Common.{◌≡◌, ◌*◌, Some, ap, ◌∙◌, arith, w8, SFits, rules}
 use Rattle.std.proofs.lemmas.Int.{to_z-of_z}
 use Rattle.catalogue.specs.Catalogue.{move}
 use Rattle.rows.specs.Places.{code}
-use Rattle.rows.specs.declared.row.Place.TheVariants.{Nil, Act, Wait, Sum, Name}
+use Rattle.rows.specs.declared.row.Place.TheVariants.{Wait, Sum, Name}
 use Rattle.book.proofs.Walking.{some_left, next_of, move_nil, move_act, move_past, move_wait, move_name, move_left, move_right}
 use Rattle.book.proofs.questions.+move_from.Goals as goal
 

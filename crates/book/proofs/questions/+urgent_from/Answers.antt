@@ -1,8 +1,7 @@
-use Rattle.std.proofs.Common.{◌≡◌, ◌&&◌, ℤ, ap, ◌∙◌, subst, arith, w8, SFits, to_z, of_z, rules}
+use Rattle.std.proofs.Common.{◌&&◌, ap, ◌∙◌, arith, w8, SFits, rules}
 use Rattle.std.proofs.lemmas.Int.{to_z-of_z}
 use Rattle.action.specs.Action.{is_action, same}
-use Rattle.action.specs.Sets.{has}
-use Rattle.rows.specs.declared.row.Place.TheVariants.{Nil, Act, Wait, Sum, Name}
+use Rattle.rows.specs.declared.row.Place.TheVariants.{Wait, Sum, Name}
 use Rattle.book.proofs.Walking.{some_left, next_of, urgent_nil, urgent_act, urgent_early, urgent_waited, urgent_sum, urgent_name, urgent_quiet}
 use Rattle.book.proofs.questions.+urgent_from.Goals as goal
 

@@ -1,4 +1,4 @@
-use Rattle.std.proofs.Common.{◌≡◌, ◌/◌, get_or, sym, ap, ◌∙◌}
+use Rattle.std.proofs.Common.{◌/◌, get_or, sym, ap, ◌∙◌}
 use Rattle.action.specs.Lists.{nth}
 use Rattle.catalogue.specs.Catalogue.{State}
 use Rattle.book.specs.Keeping.{no_summaries}

@@ -1,4 +1,4 @@
-use Rattle.std.proofs.Common.{◌≡◌, ◌/◌, Bool, get_or, sym, ap, ◌∙◌, arith}
+use Rattle.std.proofs.Common.{◌/◌, get_or, sym, ap, ◌∙◌, arith}
 use Rattle.action.specs.Action.{internal}
 use Rattle.action.specs.Sets.{has}
 use Rattle.catalogue.specs.Catalogue.{State}

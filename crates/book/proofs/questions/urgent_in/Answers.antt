@@ -1,6 +1,5 @@
-use Rattle.std.proofs.Common.{◌≡◌, ◌/◌, false, sym, refl, ap, ◌∙◌}
+use Rattle.std.proofs.Common.{false, sym, refl, ap, ◌∙◌}
 use Rattle.catalogue.specs.Catalogue.{State}
-use Rattle.book.specs.Asking.{state_with}
 use Rattle.book.proofs.Sets.{empty_is}
 use Rattle.book.proofs.Answering.{in_range, out_of_range}
 use Rattle.book.proofs.questions.urgent_in.Goals as goal

@@ -1,4 +1,4 @@
-use Rattle.std.proofs.Common.{◌≡◌, ℕ, true, false, List, sym, ap, ◌∙◌, inl, inr}
+use Rattle.std.proofs.Common.{ℕ, true, false, List, sym, ap, ◌∙◌, inl, inr}
 use Rattle.book_words.specs.Words.{same}
 use Rattle.book_text.proofs.Finding.{find_at, find_end}
 use Rattle.book_text.proofs.names.find.Goals as goal

@@ -1,4 +1,4 @@
-use Rattle.std.proofs.Common.{◌≡◌, ◌-◌, ◌≤◌, map, take, drop}
+use Rattle.std.proofs.Common.{◌≡◌, map, take, drop}
 use Rattle.book_text.specs.Parsers.{label_in}
 use Rattle.book_text.specs.Finding.{first_same}
 use Rattle.book_text.proofs.names.find.Given as goal

@@ -1,4 +1,3 @@
-use Rattle.std.proofs.Common.{◌≡◌, sym, arith}
 use Rattle.book_text.proofs.Lists.{clamped}
 use Rattle.book_text.proofs.names.part.Goals as goal
 

@@ -1,11 +1,5 @@
-use Rattle.std.proofs.Common.{◌≡◌, ℕ, ◌+◌, ◌-◌, ◌<◌, ◌≤◌, true, false, ltb, List, [], ◌∷◌, ◌++◌, length, Ok, sym, refl, ap, ◌∙◌, subst, inl, inr, arith}
+use Rattle.std.proofs.Common.{◌+◌, ltb, length, sym, ◌∙◌, arith}
 use Rattle.std.proofs.lemmas.Bool.{or_parts, ltb-false}
-use Rattle.book_text.specs.declared.parser.Stack.{Stack}
-use Rattle.book_text.specs.declared.parser.Open.TheVariants.{Waiting, Acting, Adding}
-use Rattle.book_text.specs.declared.parser.State.TheVariants.{Title, Left, Term, Point, After}
-use Rattle.book_words.specs.Words.Kind.{wait, act, plus}
-use Rattle.book_text.specs.Parsers.{view}
-use Rattle.book_text.specs.Steps.{Leads}
 use Rattle.book_text.proofs.Terms.{leaf_put}
 use Rattle.book_text.proofs.steps.add_leaf.Goals as goal
 

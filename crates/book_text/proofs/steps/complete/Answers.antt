@@ -1,4 +1,4 @@
-use Rattle.std.proofs.Common.{◌≡◌, ℕ, ◌-◌, sym, ap, ◌∙◌, arith}
+use Rattle.std.proofs.Common.{ℕ, ◌-◌, ap, ◌∙◌}
 use Rattle.book_text.specs.declared.parser.Open.{Open}
 use Rattle.book_text.specs.Parsers.{op_at}
 use Rattle.book_text.specs.Stacks.{place_for}

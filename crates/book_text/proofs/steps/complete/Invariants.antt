@@ -1,6 +1,3 @@
-use Rattle.std.proofs.Common.{◌≡◌, ◌+◌, ◌-◌, ◌≤◌, length, take}
-use Rattle.book_text.specs.Parsers.{rows_in}
-use Rattle.book_text.specs.Stacks.{closed_rows}
 use Rattle.book_text.proofs.Completing.{Completing}
 use Rattle.book_text.proofs.steps.complete.Given as goal
 

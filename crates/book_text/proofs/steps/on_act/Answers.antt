@@ -1,10 +1,10 @@
-use Rattle.std.proofs.Common.{◌≡◌, ℕ, ◌+◌, ◌-◌, ◌<◌, ◌≤◌, true, false, List, [], ◌∷◌, ◌++◌, length, ℤ, Ok, sym, refl, ap, ◌∙◌, subst, inl, inr, arith, w8, SFits, to_z, of_z, rules}
+use Rattle.std.proofs.Common.{length, ℤ, Ok, sym, refl, ◌∙◌, subst, w8, SFits, rules}
 use Rattle.std.proofs.lemmas.Int.{to_z-of_z}
 use Rattle.book_text.specs.Stacks.{pushed}
 use Rattle.book_text.specs.declared.parser.Stack.{Stack}
-use Rattle.book_text.specs.declared.parser.Open.TheVariants.{Waiting, Acting, Adding}
-use Rattle.book_text.specs.declared.parser.State.TheVariants.{Title, Left, Term, Point, After}
-use Rattle.book_words.specs.Words.Kind.{wait, act, plus}
+use Rattle.book_text.specs.declared.parser.Open.TheVariants.{Acting}
+use Rattle.book_text.specs.declared.parser.State.TheVariants.{Point}
+use Rattle.book_words.specs.Words.Kind.{act}
 use Rattle.book_text.specs.Parsers.{view}
 use Rattle.book_text.specs.Steps.{Leads}
 use Rattle.book_text.proofs.Pushing.{with_stack, act_no, act_ok}

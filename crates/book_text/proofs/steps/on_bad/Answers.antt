@@ -1,4 +1,4 @@
-use Rattle.std.proofs.Common.{◌≡◌, sym, refl, ◌∙◌}
+use Rattle.std.proofs.Common.{sym, refl, ◌∙◌}
 use Rattle.book_text.proofs.Passing.{bad_no, port_fails}
 use Rattle.book_text.proofs.steps.on_bad.Goals as goal
 

@@ -1,10 +1,5 @@
-use Rattle.std.proofs.Common.{◌≡◌, ℕ, ◌+◌, ◌-◌, ◌<◌, ◌≤◌, true, false, List, [], ◌∷◌, ◌++◌, length, Ok, sym, refl, ap, ◌∙◌, subst, inl, inr, arith}
-use Rattle.book_text.specs.declared.parser.Stack.{Stack}
-use Rattle.book_text.specs.declared.parser.Open.TheVariants.{Waiting, Acting, Adding}
-use Rattle.book_text.specs.declared.parser.State.TheVariants.{Title, Left, Term, Point, After}
-use Rattle.book_words.specs.Words.Kind.{wait, act, plus}
-use Rattle.book_text.specs.Parsers.{view}
-use Rattle.book_text.specs.Steps.{Leads}
+use Rattle.std.proofs.Common.{refl, inl, inr, arith}
+use Rattle.book_text.specs.declared.parser.State.TheVariants.{Term}
 use Rattle.book_text.proofs.Naming.{call_many, call_does, long_leaves}
 use Rattle.book_text.proofs.steps.on_call.Goals as goal
 

@@ -1,6 +1,6 @@
-use Rattle.std.proofs.Common.{◌≡◌, ℕ, ◌<◌, Bool, sym, refl, ap, ◌∙◌, subst, arith}
+use Rattle.std.proofs.Common.{◌<◌, Bool, sym, refl, ◌∙◌, subst, arith}
 use Rattle.book_text.specs.Settling.{Settles}
-use Rattle.book_text.proofs.Leaving.{leave_no, leave_empty, leave_lost, leave_ok, row_left}
+use Rattle.book_text.proofs.Leaving.{leave_no, leave_empty, leave_lost, leave_ok}
 use Rattle.book_text.proofs.steps.on_leave.Goals as goal
 
 pub returns-then-not-is_in : goal.returns-then-not-is_in

@@ -1,10 +1,4 @@
-use Rattle.std.proofs.Common.{◌≡◌, ℕ, ◌+◌, ◌-◌, ◌<◌, ◌≤◌, true, false, List, [], ◌∷◌, ◌++◌, length, Ok, sym, refl, ap, ◌∙◌, subst, inl, inr, arith}
-use Rattle.book_text.specs.declared.parser.Stack.{Stack}
-use Rattle.book_text.specs.declared.parser.Open.TheVariants.{Waiting, Acting, Adding}
-use Rattle.book_text.specs.declared.parser.State.TheVariants.{Title, Left, Term, Point, After}
-use Rattle.book_words.specs.Words.Kind.{wait, act, plus}
-use Rattle.book_text.specs.Parsers.{view}
-use Rattle.book_text.specs.Steps.{Leads}
+use Rattle.std.proofs.Common.{sym, refl, ◌∙◌, inl, inr, arith}
 use Rattle.book_text.proofs.Passing.{module_no, module_many, module_ok}
 use Rattle.book_text.proofs.steps.on_module.Goals as goal
 

@@ -1,8 +1,7 @@
-use Rattle.std.proofs.Common.{◌≡◌, ℕ, ◌+◌, ◌-◌, ◌<◌, ◌≤◌, true, false, List, [], ◌∷◌, ◌++◌, length, Ok, sym, refl, ap, ◌∙◌, subst, inl, inr, arith}
+use Rattle.std.proofs.Common.{length, Ok, sym, refl, ◌∙◌, subst}
 use Rattle.book_text.specs.declared.parser.Stack.{Stack}
-use Rattle.book_text.specs.declared.parser.Open.TheVariants.{Waiting, Acting, Adding}
-use Rattle.book_text.specs.declared.parser.State.TheVariants.{Title, Left, Term, Point, After}
-use Rattle.book_words.specs.Words.Kind.{wait, act, plus}
+use Rattle.book_text.specs.declared.parser.State.TheVariants.{Term}
+use Rattle.book_words.specs.Words.Kind.{plus}
 use Rattle.book_text.specs.Parsers.{view}
 use Rattle.book_text.specs.Steps.{Leads}
 use Rattle.book_text.proofs.Pushing.{with_stack, plus_no, plus_ok}

@@ -1,4 +1,4 @@
-use Rattle.std.proofs.Common.{◌≡◌, sym, arith}
+use Rattle.std.proofs.Common.{sym, arith}
 use Rattle.std.proofs.lemmas.List.{get_or_past}
 use Rattle.book_text.specs.declared.parser.Open.TheVariants.{Waiting}
 use Rattle.book_text.proofs.steps.op_at.Goals as goal

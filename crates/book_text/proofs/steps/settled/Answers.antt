@@ -1,10 +1,10 @@
-use Rattle.std.proofs.Common.{◌≡◌, ℕ, ◌<◌, List, map, length, get_or, take, Some, sym, refl, ap, ◌∙◌, subst, arith, rules}
+use Rattle.std.proofs.Common.{ℕ, ◌<◌, List, map, get_or, take, Some, sym, ap, ◌∙◌, arith, rules}
 use Rattle.std.proofs.lemmas.List.{length-take, get_or-take}
 use Rattle.rows.specs.declared.row.Place.{Place}
 use Rattle.rows.specs.declared.row.Place.TheVariants.{Name}
 use Rattle.book_grammar.specs.Rows.Row.{named}
 use Rattle.book_text.specs.declared.parser.Label.{Label}
-use Rattle.book_text.specs.Parsers.{part_in, side_in, row_in}
+use Rattle.book_text.specs.Parsers.{side_in, row_in}
 use Rattle.book_text.specs.Settling.{settled_row}
 use Rattle.book_text.proofs.Finding.{no_label}
 use Rattle.book_text.proofs.Rowing.{nowhere}

@@ -1,5 +1,4 @@
-use Rattle.std.proofs.Common.{◌≡◌, ℕ, ◌<◌, ◌≤◌, Bool, true, false, length, get_or, sym, refl, ap, ◌∙◌, arith}
-use Rattle.book_words.specs.Words.{blank, alnum}
+use Rattle.std.proofs.Common.{◌<◌, length, sym, ◌∙◌, arith}
 use Rattle.book_words.proofs.Cutting.{cut_none, cut_run, cut_ask, cut_tell, cut_mark, no_name}
 use Rattle.book_words.proofs.reader.next_word.Goals as goal
 

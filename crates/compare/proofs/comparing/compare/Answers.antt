@@ -1,6 +1,5 @@
-use Rattle.std.proofs.Common.{◌≡◌, length, ◌∙◌, rules}
+use Rattle.std.proofs.Common.{◌∙◌, rules}
 use Rattle.std.proofs.lemmas.Result.{err_from_is_err_and}
-use Rattle.catalogue.specs.Catalogue.{module_in}
 use Rattle.compare.proofs.Sweeping.{fair_start}
 use Rattle.compare.proofs.Whole.{old_unknown, new_unknown, refused_first, refused_later, explored_rows, accepted}
 use Rattle.compare.proofs.comparing.compare.Goals as goal

@@ -1,4 +1,4 @@
-use Rattle.std.proofs.Common.{◌≡◌, ◌≤◌, length, take, arith}
+use Rattle.std.proofs.Common.{◌≤◌, length, arith}
 use Rattle.catalogue.specs.Catalogue.{state_in}
 use Rattle.compare.proofs.Growing.{gather_more, gather_rest, gather_all, nth_none, moves_few}
 use Rattle.compare.proofs.comparing.gather.Goals as goal

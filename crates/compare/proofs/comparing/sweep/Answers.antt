@@ -1,6 +1,3 @@
-use Rattle.std.proofs.Common.{arith}
-use Rattle.catalogue.specs.Catalogue.{module_in}
-use Rattle.compare.specs.Rows.{pairs_of}
 use Rattle.compare.proofs.Sweeping.{swept_none, swept_pass, swept_write}
 use Rattle.compare.proofs.comparing.sweep.Goals as goal
 

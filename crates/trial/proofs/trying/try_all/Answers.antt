@@ -1,4 +1,4 @@
-use Rattle.std.proofs.Common.{◌≡◌, length, sym, refl, ap, ◌∙◌, arith}
+use Rattle.std.proofs.Common.{length, sym, ◌∙◌}
 use Rattle.trial.specs.Trying.{wanted}
 use Rattle.trial.proofs.Trials.{fails_here, fails_later, fails_nowhere, meets_wanted, refused_at, met}
 use Rattle.trial.proofs.trying.try_all.Goals as goal

@@ -1,6 +1,5 @@
-use Rattle.std.proofs.Common.{◌≡◌, ℕ, ◌+◌, ◌-◌, true, false, ltb, leb, length, take, drop, sym, refl, ap, ◌∙◌, arith}
+use Rattle.std.proofs.Common.{◌≡◌, ◌+◌, ◌-◌, true, false, take, drop, sym, refl, ap, arith}
 use Rattle.std.proofs.lemmas.Bool.{lt-ltb, le-ltb, le-leb, lt-leb}
-use Rattle.rows.specs.declared.row.ModuleRow.{ModuleRow}
 use Rattle.trial.proofs.Trials.{row_tried, places_tried}
 use Rattle.trial.proofs.trying.try_module.Goals as goal
 

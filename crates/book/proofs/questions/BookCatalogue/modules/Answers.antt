@@ -1,4 +1,4 @@
-use Rattle.std.proofs.Common.{◌≡◌, sym, ◌∙◌}
+use Rattle.std.proofs.Common.{sym, ◌∙◌}
 use Rattle.book.proofs.Answering.{count_at_fault, count_is}
 use Rattle.book.proofs.questions.BookCatalogue.modules.Goals as goal
 

@@ -1,4 +1,4 @@
-use Rattle.std.proofs.Common.{◌≡◌, ℕ, replicate, refl, arith}
+use Rattle.std.proofs.Common.{ℕ, refl, arith}
 use Rattle.std.proofs.lemmas.List.{length-replicate}
 use Rattle.book_text.specs.declared.parser.Open.TheVariants.{Waiting}
 use Rattle.book_text.specs.Parsers.{view}

@@ -1,5 +1,5 @@
-use Rattle.std.proofs.Common.{◌≡◌, sym, ◌∙◌}
-use Rattle.book_text.proofs.Whole.{going_first, going_more, going_refused, ends_taken, ends_unfinished}
+use Rattle.std.proofs.Common.{sym, ◌∙◌}
+use Rattle.book_text.proofs.Whole.{going_first, going_more, ends_taken, ends_unfinished}
 use Rattle.book_text.proofs.steps.reading.read_words.Goals as goal
 
 pub loop-found-init : goal.loop-found-init

@@ -1,6 +1,6 @@
-use Rattle.std.proofs.Common.{◌≡◌, ◌-◌, length, take, drop, sym, refl, ap, ◌∙◌, subst, w8, SFits, to_z, of_z, rules}
+use Rattle.std.proofs.Common.{◌-◌, length, take, drop, sym, refl, ap, ◌∙◌, subst, w8, SFits, to_z, of_z, rules}
 use Rattle.std.proofs.lemmas.Int.{to_z-of_z}
-use Rattle.book_words.specs.Words.Kind.{alien, other, bad, begins, nil, wait, dot, plus, equals, ends, opens, closes, enter, leave, name, act}
+use Rattle.book_words.specs.Words.Kind.{bad, begins, nil, wait, dot, plus, equals, ends, opens, closes, enter, act}
 use Rattle.book_words.specs.declared.word.Word.{Word}
 use Rattle.book_words.specs.Shown.{kind_of, Spells}
 use Rattle.book_text.specs.Parsers.{view}
