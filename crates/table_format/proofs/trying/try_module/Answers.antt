@@ -10,8 +10,8 @@ use Rattle.table_format.proofs.trying.try_module.Goals as goal
 abbrev states_of : List ℕ → ℕ → Option TableFault
 states_of b m = states_fault b (codes_at b m) (after b m) (codes_at b m) (m + 6)
 
-at-states : (b : List ℕ) (n e m : ℕ) (o : Option TableFault) → n ≡ codes_at b m → e ≡ after b m → states_fault b n e n (m + 6) ≡ o → states_of b m ≡ o
-at-states b n e m o p q h = ap (λ x. states_fault b x (after b m) x (m + 6)) (sym p) ∙ ap (λ x. states_fault b n x n (m + 6)) (sym q) ∙ h
+at_states : (b : List ℕ) (n e m : ℕ) (o : Option TableFault) → n ≡ codes_at b m → e ≡ after b m → states_fault b n e n (m + 6) ≡ o → states_of b m ≡ o
+at_states b n e m o p q h = ap (λ x. states_fault b x (after b m) x (m + 6)) (sym p) ∙ ap (λ x. states_fault b n x n (m + 6)) (sym q) ∙ h
 
 pub returns-in_err-end : goal.returns-in_err-end
 unfolding module_fault
@@ -33,13 +33,13 @@ returns-in_err-try_states c =
     let p = err_from_is_err_and c.from_residual-in_err-try_states.result c.from_residual-in_err-try_states.ensures.1 in
     let b = c.args.bytes.now in let m = c.args.m in
     rw (p.1, p.2) (none_then (module_length_fault b m) (module_head_fault b m ▹ states_of b m) c.in_ok-end.ensures.0 ∙ none_then (module_head_fault b m) (states_of b m) c.in_ok-codes.ensures.0
-    ∙ at-states b c.in_ok-codes.codes c.in_ok-end.end m (Some c.in_err-try_states.field-0.0) c.in_ok-codes.ensures.1 c.in_ok-end.ensures.1 c.in_err-try_states.ensures)
+    ∙ at_states b c.in_ok-codes.codes c.in_ok-end.end m (Some c.in_err-try_states.field-0.0) c.in_ok-codes.ensures.1 c.in_ok-end.ensures.1 c.in_err-try_states.ensures)
 
 pub returns : goal.returns
 unfolding module_fault
 returns c =
     let b = c.args.bytes.now in let m = c.args.m in (
       then_i (module_length_fault b m) (module_head_fault b m ▹ states_of b m) c.in_ok-end.ensures.0 (then_i (module_head_fault b m) (states_of b m) c.in_ok-codes.ensures.0
-          (at-states b c.in_ok-codes.codes c.in_ok-end.end m None c.in_ok-codes.ensures.1 c.in_ok-end.ensures.1 c.in_ok-try_states.ensures)),
+          (at_states b c.in_ok-codes.codes c.in_ok-end.end m None c.in_ok-codes.ensures.1 c.in_ok-end.ensures.1 c.in_ok-try_states.ensures)),
       c.in_ok-end.ensures.1,
     )

@@ -34,8 +34,8 @@ returns-then-not-contains g c =
     let known = c.if-not-is_known.ensures in
     let state = c.if-not-stands.ensures in
     let urgent = urgents_is ms (line_of l) s c.gathered.result c.shown-urgent.result c.gathered.ensures c.shown-urgent.ensures in
-    let every-tick = every (length (line_of l).slots) (slot_ticks ms (line_of l) s) in
-    let ticking = c.all_tick-ticks.ensures ∙ ticks_calm every-tick (has c.shown-urgent.result internal) (sym c.contains.ensures ∙ c.if-not-contains.true) in
+    let every_tick = every (length (line_of l).slots) (slot_ticks ms (line_of l) s) in
+    let ticking = c.all_tick-ticks.ensures ∙ ticks_calm every_tick (has c.shown-urgent.result internal) (sym c.contains.ensures ∙ c.if-not-contains.true) in
     record { answer = told l ms s known state _ urgent ticking; tells = truly l ms s known state _ urgent ticking; worked = worked }
 
 pub returns-else-not-contains : goal.returns-else-not-contains
@@ -46,7 +46,7 @@ returns-else-not-contains g c =
     let known = c.if-not-is_known.ensures in
     let state = c.if-not-stands.ensures in
     let urgent = urgents_is ms (line_of l) s c.gathered.result c.shown-urgent.result c.gathered.ensures c.shown-urgent.ensures in
-    let every-tick = every (length (line_of l).slots) (slot_ticks ms (line_of l) s) in
+    let every_tick = every (length (line_of l).slots) (slot_ticks ms (line_of l) s) in
     let is = c.contains.ensures in
-    let ticking = ap not is ∙ ticks_not every-tick (has c.shown-urgent.result internal) (sym is ∙ c.if-not-contains.false) in
+    let ticking = ap not is ∙ ticks_not every_tick (has c.shown-urgent.result internal) (sym is ∙ c.if-not-contains.false) in
     record { answer = told l ms s known state _ urgent ticking; tells = truly l ms s known state _ urgent ticking; worked = worked }

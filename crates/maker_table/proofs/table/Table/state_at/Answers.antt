@@ -9,8 +9,8 @@ use Rattle.maker_table.proofs.Lookup.{count_listed, placed_in, module_none, modu
 use Rattle.maker_table.proofs.table.Table.state_at.Goals as goal
 
 -- the offset of the module's record
-abbrev at-module : List ℕ → ℕ → ℕ
-at-module b m = get_or (offsets b (pair b 1) 3) m 0
+abbrev at_module : List ℕ → ℕ → ℕ
+at_module b m = get_or (offsets b (pair b 1) 3) m 0
 
 pub returns-then-part-len : goal.returns-then-part-len
 returns-then-part-len c =
@@ -26,7 +26,7 @@ pub returns-then-code-codes : goal.returns-then-code-codes
 returns-then-code-codes c =
     let t = c.args.self.now in
     let b = written t in
-    let i = at-module b c.args.part in
+    let i = at_module b c.args.part in
     let f = placed_in t c.args.part c.index-place.result.now (omega arith) c.index-place.ensures in
     let n : c.pair_at-codes.result ≡ codes_at b i = c.pair_at-codes.ensures ∙ ap (λ (z : List ℕ). pair z (c.index-place.result.now.at + 2)) c.as_slice.ensures.value ∙ ap (codes_at b) f.1.at_is in
     record { at = sym (state_none b c.args.part c.args.code i (module_some b c.args.part f.0) (omega arith)); whole = tt }
@@ -36,14 +36,14 @@ index-s-requires c =
     let t = c.args.self.now in
     let b = written t in
     let f = placed_in t c.args.part c.index-place.result.now (omega arith) c.index-place.ensures in
-    let n : c.pair_at-codes.result ≡ codes_at b (at-module b c.args.part) = c.pair_at-codes.ensures ∙ ap (λ (z : List ℕ). pair z (c.index-place.result.now.at + 2)) c.as_slice.ensures.value ∙ ap (codes_at b) f.1.at_is in
+    let n : c.pair_at-codes.result ≡ codes_at b (at_module b c.args.part) = c.pair_at-codes.ensures ∙ ap (λ (z : List ℕ). pair z (c.index-place.result.now.at + 2)) c.as_slice.ensures.value ∙ ap (codes_at b) f.1.at_is in
     omega (arith, f.1.there c.args.code (omega arith), t.states.ok.0)
 
 pub returns : goal.returns
 returns c =
     let t = c.args.self.now in
     let b = written t in
-    let i = at-module b c.args.part in
+    let i = at_module b c.args.part in
     let f = placed_in t c.args.part c.index-place.result.now (omega arith) c.index-place.ensures in
     let n : c.pair_at-codes.result ≡ codes_at b i = c.pair_at-codes.ensures ∙ ap (λ (z : List ℕ). pair z (c.index-place.result.now.at + 2)) c.as_slice.ensures.value ∙ ap (codes_at b) f.1.at_is in
     let k : c.args.code < codes_at b i = omega arith in
