@@ -6,7 +6,7 @@ mod operations;
 
 pub use iter::Actions;
 
-#[derive(Clone, Copy)]
+#[derive(Clone, Copy, Debug, PartialEq, Eq)]
 pub struct ActionSet {
     bits: u64,
     ghost narrow: { bits < 2 ^ 63 },

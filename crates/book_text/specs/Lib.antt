@@ -8,3 +8,4 @@ pub mod Steps
 pub mod Outcomes
 pub mod Promises
 pub mod Cases
+pub mod Texts

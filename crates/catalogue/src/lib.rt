@@ -9,7 +9,7 @@ ghost use Rattle.catalogue.specs.Catalogue.{Module, Lawful, state_in, codes as c
 use action::ActionSet;
 
 // One thing that a module can do in a state: an action, and the code of the state that it leads to.
-#[derive(Clone, Copy)]
+#[derive(Clone, Copy, Debug, Default, PartialEq, Eq)]
 pub struct Move {
     pub action: i8,
     pub target: u32,

@@ -1,6 +1,6 @@
 -- What is printed of comparisons, byte by byte. Assumes nothing.
 use Rattle.std.specs.Prelude.{ℕ, List, [], map, Ok, Err, codes as ascii, decimal, Result}
-use Rattle.action.specs.Lists.{each}
+use Rattle.action.specs.Lists.{each, ◌⧺◌}
 use Rattle.catalogue.specs.Catalogue.{Catalogue, Module, module_in}
 use Rattle.pair_table.specs.declared.PairRow.{PairRow}
 use Rattle.pair_table.specs.declared.Compared.{Compared}
@@ -8,7 +8,7 @@ use Rattle.pair_table.specs.declared.CompareFault.{CompareFault}
 use Rattle.pair_table.specs.Pairs.{most_rows, rows}
 use Rattle.pair_table.specs.Rounds.{rank}
 use Rattle.pair_table.specs.Tables.{refusal_number, answer, row_of}
-use Rattle.report.specs.Text.{◌⧺◌, numbered}
+use Rattle.report.specs.Text.{numbered}
 
 -- how many pairs there are and the rank of the first, or the number of the refusal; it ends a line
 abbrev pub answer_text : Result Compared CompareFault → List ℕ

@@ -3,3 +3,4 @@ pub mod Drawing
 pub mod Swapping
 pub mod Time
 pub mod Cases
+pub mod Texts

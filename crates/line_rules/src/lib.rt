@@ -1,19 +1,22 @@
 // What a line is and does, and what is answered of it: the words of drawing, swapping and the time question.
 #![tactic(auto)]
 
-ghost use Rattle.std.specs.Prelude.{◌≡◌};
+ghost use Rattle.std.specs.Prelude.{◌≡◌, Some};
 ghost use Rattle.line_rules.specs.declared.DrawFault.TheVariants.{Renaming};
 ghost use Rattle.line_rules.specs.declared.SwapFault.TheVariants.{Compare};
 ghost use Rattle.line_rules.specs.Drawing.{draw_number};
 ghost use Rattle.line_rules.specs.Swapping.{swap_number};
 ghost use Rattle.line_rules.specs.Time.{time_number};
+ghost use Rattle.line_rules.specs.Texts.{draw_fault_text, swap_fault_text, time_fault_text};
 
 use action::ActionSet;
 use pair_table::CompareFault;
 use renaming::RenamingFault;
+use std::error::Error;
+use std::fmt;
 
 // Why a line is not drawn.
-#[derive(Clone, Copy)]
+#[derive(Clone, Copy, Debug, PartialEq, Eq)]
 pub enum DrawFault {
     // no slot, or more than 16
     SlotCount,
@@ -26,7 +29,7 @@ pub enum DrawFault {
 }
 
 // Why a module is not put into a slot.
-#[derive(Clone, Copy)]
+#[derive(Clone, Copy, Debug, PartialEq, Eq)]
 pub enum SwapFault {
     // the line has no such slot
     UnknownSlot,
@@ -37,7 +40,7 @@ pub enum SwapFault {
 }
 
 // Why nothing is told of a line's time.
-#[derive(Clone, Copy)]
+#[derive(Clone, Copy, Debug, PartialEq, Eq)]
 pub enum TimeFault {
     // a slot's module is not in the catalogue
     UnknownModule,
@@ -46,7 +49,7 @@ pub enum TimeFault {
 }
 
 // Whether a line ticks in a state, and the actions that are urgent in it.
-#[derive(Clone, Copy)]
+#[derive(Clone, Copy, Debug, PartialEq, Eq)]
 pub struct TimeAnswer {
     pub ticks: bool,
     pub urgent: ActionSet,
@@ -106,3 +109,41 @@ impl From<CompareFault> for SwapFault {
         SwapFault::Compare(why)
     }
 }
+
+// The number of the refusal.
+impl fmt::Display for DrawFault {
+    ghost output = { λ e. Some (draw_fault_text e) };
+
+    fn fmt<W: fmt::Write>(&self, f: &mut fmt::Formatter<W>) -> fmt::Result {
+        let number = self.number();
+        write!(f, "{number}")
+    }
+}
+
+impl Error for DrawFault {}
+
+// The number of the refusal.
+impl fmt::Display for TimeFault {
+    ghost output = { λ e. Some (time_fault_text e) };
+
+    fn fmt<W: fmt::Write>(&self, f: &mut fmt::Formatter<W>) -> fmt::Result {
+        write!(f, "{}", self.number())
+    }
+}
+
+impl Error for TimeFault {}
+
+// The number of the refusal, and the rank of a module that is slower.
+impl fmt::Display for SwapFault {
+    ghost output = { λ e. Some (swap_fault_text e) };
+
+    fn fmt<W: fmt::Write>(&self, f: &mut fmt::Formatter<W>) -> fmt::Result {
+        let number = self.number();
+        match self {
+            SwapFault::Slower(rank) => write!(f, "{number} {rank}"),
+            other => write!(f, "{}", other.number()),
+        }
+    }
+}
+
+impl Error for SwapFault {}

@@ -1,6 +1,7 @@
 -- What the programs print, as a function of the bytes of the files book.txt and maker.tab. Assumes nothing.
 use Rattle.std.specs.Prelude.{ℕ, true, false, List, length, Some, None, codes as ascii, decimal, Option, nat_lt}
 use Rattle.std.specs.Option.{unwrap_or}
+use Rattle.action.specs.Lists.{◌⧺◌}
 use Rattle.catalogue.specs.Catalogue.{Catalogue}
 use Rattle.catalogue.specs.Layers.{joined}
 use Rattle.rows.specs.Opening.{opened}
@@ -11,7 +12,7 @@ use Rattle.book_text.specs.Outcomes.Outcome.{turned_away, accepted}
 use Rattle.table_format.specs.declared.fault.TableFault.{TableFault}
 use Rattle.table_format.specs.Reading.{meaning}
 use Rattle.table_format.specs.Taking.{fault, number, place}
-use Rattle.report.specs.Text.{◌⧺◌, longest_file, fault_line, long_line}
+use Rattle.report.specs.Text.{longest_file, fault_line, long_line}
 use Rattle.comparison_text.specs.Text.{comparisons, comparison}
 use Rattle.swaps_text.specs.Text.{swap_lines}
 use Rattle.output.specs.declared.FileFault.{FileFault}

@@ -3,3 +3,4 @@ pub mod Rounds
 pub mod Tables
 pub mod Laws
 pub mod Cases
+pub mod Texts

@@ -1,11 +1,15 @@
 // The pair table of two modules: its rows, what a comparison answers, and why it refuses.
 #![tactic(auto)]
 
-ghost use Rattle.std.specs.Prelude.{◌≡◌};
+ghost use Rattle.std.specs.Prelude.{◌≡◌, Some};
 ghost use Rattle.pair_table.specs.Tables.{refusal_number};
+ghost use Rattle.pair_table.specs.Texts.{compare_fault_text};
+
+use std::error::Error;
+use std::fmt;
 
 // A pair of a new and an old state, and the first round that drops it, 0 where none does.
-#[derive(Clone, Copy)]
+#[derive(Clone, Copy, Debug, Default, PartialEq, Eq)]
 pub struct PairRow {
     pub new: u32,
     pub old: u32,
@@ -13,14 +17,14 @@ pub struct PairRow {
 }
 
 // How many pairs there are, and the rank of the pair of starts.
-#[derive(Clone, Copy)]
+#[derive(Clone, Copy, Debug, PartialEq, Eq)]
 pub struct Compared {
     pub pairs: usize,
     pub rank: u32,
 }
 
 // Why two modules are not compared.
-#[derive(Clone, Copy)]
+#[derive(Clone, Copy, Debug, PartialEq, Eq)]
 pub enum CompareFault {
     UnknownOld,
     UnknownNew,
@@ -39,3 +43,15 @@ impl CompareFault {
         }
     }
 }
+
+// The number of the refusal.
+impl fmt::Display for CompareFault {
+    ghost output = { λ e. Some (compare_fault_text e) };
+
+    fn fmt<W: fmt::Write>(&self, f: &mut fmt::Formatter<W>) -> fmt::Result {
+        let number = self.number();
+        write!(f, "{number}")
+    }
+}
+
+impl Error for CompareFault {}

@@ -1,2 +1,3 @@
 pub mod Renaming
 pub mod Faults
+pub mod Texts

@@ -1,8 +1,12 @@
 // What can be wrong with a list of renaming entries.
-ghost use Rattle.std.specs.Prelude.{◌≡◌};
+ghost use Rattle.std.specs.Prelude.{◌≡◌, Some};
 ghost use Rattle.renaming.specs.Faults.{number as refusal_number};
+ghost use Rattle.renaming.specs.Texts.{renaming_fault_text};
 
-#[derive(Clone, Copy)]
+use std::error::Error;
+use std::fmt;
+
+#[derive(Clone, Copy, Debug, PartialEq, Eq)]
 pub enum RenamingFault {
     // so many entries, and not one for each port
     Length(usize),
@@ -24,3 +28,15 @@ impl RenamingFault {
         }
     }
 }
+
+// The number of the refusal.
+impl fmt::Display for RenamingFault {
+    ghost output = { λ e. Some (renaming_fault_text e) };
+
+    fn fmt<W: fmt::Write>(&self, f: &mut fmt::Formatter<W>) -> fmt::Result {
+        let number = self.number();
+        write!(f, "{number}")
+    }
+}
+
+impl Error for RenamingFault {}

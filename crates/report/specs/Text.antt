@@ -1,13 +1,9 @@
 -- What is printed of a catalogue, byte by byte. Assumes nothing.
 use Rattle.std.specs.Prelude.{ℕ, zero, suc, List, [], ◌∷◌, ◌++◌, length, ℤ, pos, negsuc, Some, None, codes as ascii, decimal, Option}
+use Rattle.action.specs.Lists.{◌⧺◌}
 use Rattle.action.specs.Sets.{members}
 use Rattle.catalogue.specs.declared.Move.{Move}
 use Rattle.catalogue.specs.Catalogue.{State, Module, Catalogue, codes, start_of}
-
-infixr 5 ◌⧺◌
--- one text and then another; it is `++`, grouped to the right
-abbrev pub ◌⧺◌ : List ℕ → List ℕ → List ℕ
-a ⧺ b = a ++ b
 
 -- an action as in a book: ?7 receives on port 7, !7 sends on it, i is the internal event
 abbrev pub action_text : ℤ → List ℕ

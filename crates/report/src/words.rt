@@ -1,8 +1,9 @@
 // The words of a line: an action, a tick, a list of moves or of urgent actions.
 ghost use Rattle.std.specs.Prelude.{Some, codes as ascii};
+ghost use Rattle.action.specs.Lists.{◌⧺◌};
 ghost use Rattle.action.specs.Sets.{members};
 ghost use Rattle.catalogue.specs.Catalogue.{state_in};
-ghost use Rattle.report.specs.Text.{action_text, move_text, tick_text, listed, ◌⧺◌};
+ghost use Rattle.report.specs.Text.{action_text, move_text, tick_text, listed};
 ghost use Rattle.report.specs.Adding.{Added};
 
 use action::ActionSet;

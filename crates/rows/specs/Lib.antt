@@ -5,3 +5,4 @@ pub mod Walks
 pub mod Calculus
 pub mod Rules
 pub mod Cases
+pub mod Texts

@@ -1,9 +1,13 @@
 // What can be wrong with rows.
-ghost use Rattle.std.specs.Prelude.{◌≡◌};
+ghost use Rattle.std.specs.Prelude.{◌≡◌, Some};
 ghost use Rattle.rows.specs.Faults.{refusal_number, part_of, place_of};
+ghost use Rattle.rows.specs.Texts.{rows_fault_text};
+
+use std::error::Error;
+use std::fmt;
 
 // Each case says what is wrong, and where: `part` is the number of the module, `place` that of a place in it.
-#[derive(Clone, Copy)]
+#[derive(Clone, Copy, Debug, PartialEq, Eq)]
 pub enum RowsFault {
     // there are 64 modules before this one
     ManyModules { part: usize },
@@ -74,3 +78,17 @@ impl RowsFault {
         }
     }
 }
+
+// The number of the refusal, the module and the place.
+impl fmt::Display for RowsFault {
+    ghost output = { λ e. Some (rows_fault_text e) };
+
+    fn fmt<W: fmt::Write>(&self, f: &mut fmt::Formatter<W>) -> fmt::Result {
+        let number = self.number();
+        let part = self.part();
+        let place = self.place();
+        write!(f, "{number} {part} {place}")
+    }
+}
+
+impl Error for RowsFault {}

@@ -1,9 +1,10 @@
 // The rows that a book consists of. A zeroed row is nil.
 
 // A place of a right side. The places that it leads to are numbers of places in the same module.
-#[derive(Clone, Copy)]
+#[derive(Clone, Copy, Debug, Default, PartialEq, Eq)]
 pub enum Place {
     // `0`: nothing can happen any more
+    #[default]
     Nil,
     // `?7.P`, `!7.P`, `i.P`: the action (receive 7, send -7, internal 0), and the place that follows it
     Act(i8, u16),
@@ -16,7 +17,7 @@ pub enum Place {
 }
 
 // A module.
-#[derive(Clone, Copy)]
+#[derive(Clone, Copy, Debug, Default, PartialEq, Eq)]
 pub struct ModuleRow {
     // the place row that is the module's place 0
     pub first: usize,

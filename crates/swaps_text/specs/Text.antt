@@ -1,6 +1,6 @@
 -- What is printed of swaps that are tried in a line, byte by byte. Assumes nothing.
 use Rattle.std.specs.Prelude.{ℕ, zero, suc, min, List, [], ◌∷◌, map, length, Some, None, Ok, Err, codes as ascii, decimal, Option, Result}
-use Rattle.action.specs.Lists.{each}
+use Rattle.action.specs.Lists.{each, ◌⧺◌}
 use Rattle.renaming.specs.Renaming.{each_to_itself}
 use Rattle.catalogue.specs.Catalogue.{Catalogue}
 use Rattle.line_rules.specs.declared.DrawFault.{DrawFault}
@@ -9,7 +9,6 @@ use Rattle.line_rules.specs.declared.SwapFault.TheVariants.{UnknownSlot, Compare
 use Rattle.line_rules.specs.Line.{Slot, Line, most_slots}
 use Rattle.line_rules.specs.Drawing.{draw_number, draw_fault, planned}
 use Rattle.line_rules.specs.Swapping.{Swap, asked, swap_number, swap_answer, swapped}
-use Rattle.report.specs.Text.{◌⧺◌}
 
 -- n numbers, from k on
 abbrev pub counting : (k n : ℕ) → List ℕ

@@ -6,3 +6,4 @@ pub mod Taking
 pub mod Law
 pub mod Told
 pub mod Worked
+pub mod Texts

@@ -1,12 +1,15 @@
 // What can be wrong with a maker's table.
-ghost use Rattle.std.specs.Prelude.{◌≡◌};
+ghost use Rattle.std.specs.Prelude.{◌≡◌, Some};
 ghost use Rattle.table_format.specs.declared.fault.TableFault.TheVariants.{NoMemory};
 ghost use Rattle.table_format.specs.Taking.{number as refusal_number, place as place_of};
+ghost use Rattle.table_format.specs.Texts.{table_fault_text};
 
 use std::alloc::AllocError;
+use std::error::Error;
+use std::fmt;
 
 // A case holds the offset of the first byte of the field at fault, unless there is only one such field.
-#[derive(Clone, Copy, PartialEq, Eq, Debug)]
+#[derive(Clone, Copy, Debug, PartialEq, Eq)]
 pub enum TableFault {
     // There is no byte 01 in front.
     NotVersionOne,
@@ -83,3 +86,18 @@ impl TableFault {
         }
     }
 }
+
+// The number of the refusal and the offset, or that memory is wanting.
+impl fmt::Display for TableFault {
+    ghost output = { λ e. Some (table_fault_text e) };
+
+    fn fmt<W: fmt::Write>(&self, f: &mut fmt::Formatter<W>) -> fmt::Result {
+        let place = self.place();
+        match self.number() {
+            Some(number) => write!(f, "{number} {place}"),
+            None => write!(f, "out of memory"),
+        }
+    }
+}
+
+impl Error for TableFault {}

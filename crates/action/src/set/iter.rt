@@ -6,7 +6,7 @@ ghost use Rattle.std.specs.Iterator.{at_most};
 
 use super::ActionSet;
 
-#[derive(Clone, Copy)]
+#[derive(Clone, Copy, Debug)]
 pub struct Actions {
     set: ActionSet,
     // the bit to look at next
