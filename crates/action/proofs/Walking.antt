@@ -1,5 +1,5 @@
 -- Steps of a walk over a set. Assumes nothing.
-use Rattle.std.proofs.Common.{◌≡◌, ℕ, zero, suc, ◌-◌, ◌<◌, ◌≤◌, Bool, true, false, leb, List, [], ◌∷◌, ℤ, pos, negsuc, ◌-ℤ◌, sym, refl, ap, ◌∙◌, arith}
+use Rattle.std.proofs.Common.{◌≡◌, ℕ, zero, suc, ◌+◌, ◌-◌, ◌<◌, ◌≤◌, Bool, true, false, leb, List, [], ◌∷◌, ℤ, pos, negsuc, ◌-ℤ◌, sym, refl, ap, ◌∙◌, arith}
 use Rattle.std.proofs.lemmas.Bool.{leb-true, leb-false}
 use Rattle.std.proofs.lemmas.Int.{ints}
 use Rattle.action.specs.declared.set.ActionSet.{ActionSet}
@@ -45,3 +45,17 @@ counted k h = go (leb 31 k) refl
     go : (b : Bool) → leb 31 k ≡ b → pos k -ℤ pos 31 ≡ elim b [ true ↦ pos (k - 31) | false ↦ negsuc (30 - k) ]
     go true e = let l = leb-true 31 k e in omega (arith, ints)
     go false e = let l = leb-false 31 k e in omega (arith, ints)
+
+-- what is not held is passed over, up to a bit; up to the end
+pub skipped : (s : ActionSet) (n k : ℕ) → k + n ≤ 63 → ((i : ℕ) → k ≤ i → i < k + n → has s (signed i) ≡ false) → from s k ≡ from s (k + n)
+skipped s zero k b f = ap (from s) (omega arith)
+skipped s (suc n) k b f =
+    let step : from s k ≡ from s (suc k) = from_passed s k (suc k) (signed k) (omega (arith, b)) refl refl (f k (omega arith) (omega arith)) in
+    let more : from s (suc k) ≡ from s (suc k + n) = skipped s n (suc k) (omega (arith, b)) (λ i l h. f i (omega (arith, l)) (omega (arith, h))) in
+    step ∙ more ∙ ap (from s) (omega arith)
+
+pub none_left : (s : ActionSet) (n k : ℕ) → n ≡ 63 - k → ((i : ℕ) → k ≤ i → i < 63 → has s (signed i) ≡ false) → from s k ≡ []
+none_left s zero k e f = from_end s k (omega (arith, e))
+none_left s (suc n) k e f =
+    from_passed s k (suc k) (signed k) (omega (arith, e)) refl refl (f k (omega arith) (omega (arith, e)))
+    ∙ none_left s n (suc k) (omega (arith, e)) (λ i l h. f i (omega (arith, l)) h)

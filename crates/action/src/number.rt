@@ -6,7 +6,7 @@ ghost use Rattle.action.specs.Action.{is_action, opposite as opposite_of};
 pub fn is_action(number: i8) -> bool
     ensures { result ≡ is_action number }
 {
-    if number < -31 { false } else { number <= 31 }
+    (-31..=31).contains(&number)
 }
 
 // The action that meets this one. The internal event has none, and neither has what is no action.

@@ -1,6 +1,6 @@
 // A walk over what a set holds, in rising order.
-ghost use Rattle.std.specs.Prelude.{◌≡◌, ◌-◌, ℤ};
-ghost use Rattle.action.specs.Sets.{members};
+ghost use Rattle.std.specs.Prelude.{◌≡◌, ◌-◌, ◌<◌, ◌&&◌, ℤ, nat_lt};
+ghost use Rattle.action.specs.Sets.{has, members, signed};
 ghost use Rattle.action.specs.Iterating.{coming, Comes};
 ghost use Rattle.std.specs.Iterator.{at_most};
 
@@ -13,7 +13,22 @@ pub struct Actions {
     bit: u8,
 }
 
+// The action of a bit.
+fn action_at(bit: u8) -> i8
+    requires { bit < 63 }
+    ensures { result ≡ signed bit }
+{
+    bit as i8 - 31
+}
+
 impl ActionSet {
+    // Whether the bit is that of an action that the set holds.
+    fn has_bit(self, bit: u8) -> bool
+        ensures { result ≡ (nat_lt bit 63 && has self (signed bit)) }
+    {
+        bit < 63 && self.contains(action_at(bit))
+    }
+
     // The actions that the set holds, in rising order.
     pub fn iter(self) -> Actions
         ensures { coming result ≡ members self }
@@ -30,13 +45,9 @@ impl Iterator for Actions {
     ghost remaining = { λ s. at_most (63 - s.bit) };
 
     fn next(&mut self) -> Option<i8> {
-        while self.bit < 63 {
-            let action = self.bit as i8 - 31;
-            self.bit += 1;
-            if self.set.contains(action) {
-                return Some(action);
-            }
-        }
-        None
+        let set = self.set;
+        let bit = (self.bit..63).find(|bit| set.has_bit(*bit))?;
+        self.bit = bit + 1;
+        Some(action_at(bit))
     }
 }

@@ -84,11 +84,6 @@ impl ActionSet {
         ensures value { result ≡ meets self other }
         ensures means { T result ↔ ((a : ℤ) × (b : ℤ) × Opposite a b × (self ∋ a) × (other ∋ b)) }
     {
-        for port in 1..32u8 {
-            if meets_on(self, other, port) {
-                return true;
-            }
-        }
-        false
+        (1..32).any(|port| meets_on(self, other, port))
     }
 }

@@ -1,37 +1,42 @@
-use Rattle.std.proofs.Common.{◌≡◌, ℕ, suc, ◌+◌, ◌<◌, pos, ◌-ℤ◌, sym, ◌∙◌, arith, w8, to_z, of_z, rules}
-use Rattle.std.proofs.lemmas.Int.{ints}
-use Rattle.action.specs.Sets.{signed}
-use Rattle.action.specs.Iterating.{coming}
-use Rattle.action.proofs.Walking.{from_held, from_passed, from_end, counted}
+use Rattle.std.proofs.Common.{rules, ◌≡◌, ℕ, ◌+◌, ◌-◌, ◌<◌, ◌≤◌, true, false, [], ◌∷◌, ℤ, Option, Some, None, refl, sym, ◌∙◌, ap, subst, arith, w8, to_z, of_z}
+use Rattle.std.specs.Prelude.{MatchOption}
+use Rattle.std.proofs.lemmas.Iterator.{first_from_Range}
+use Rattle.action.specs.declared.set.ActionSet.{ActionSet}
+use Rattle.action.specs.Sets.{has, signed}
+use Rattle.action.specs.Iterating.{coming, Comes}
+use Rattle.action.proofs.Walking.{from, from_held, skipped, none_left}
 use Rattle.action.proofs.set.iter.ActionsIterator.next.Goals as goal
-use Rattle.std.proofs.iter.Next.{firm}
 
--- the action that the code looks at is that of its bit
-action_of : (k : ℕ) → k < 63 → to_z w8 (of_z w8 (to_z w8 k -ℤ pos 31)) ≡ signed k
-action_of k h =
-    let whole : to_z w8 (of_z w8 (to_z w8 k -ℤ pos 31)) ≡ pos k -ℤ pos 31 = omega (arith, ints) in
-    whole ∙ counted k h
+-- what the search for the next bit found
+abbrev Finds : ActionSet → ℕ → Option ℕ → Type 0
+Finds s from r = MatchOption r ((k : ℕ) → from ≤ k → k < 63 → k < 63 → has s (signed k) ≡ false)
+    (λ i. (from ≤ i) × (i < 63) × (has s (signed i) ≡ true) × ((k : ℕ) → from ≤ k → k < i → k < 63 → has s (signed k) ≡ false))
 
-pub returns-then-contains : goal.returns-then-contains
+ended : (s : ActionSet) (k : ℕ) (r : Option ℕ) → Finds s k r → r ≡ None → from s k ≡ []
+ended s k None h e = none_left s (63 - k) k refl (λ i l u. h i l u u)
+ended s k (Some i) h e = absurd (search rules)
+
+found : (s : ActionSet) (k : ℕ) (r : Option ℕ) (b : ℕ) → Finds s k r → r ≡ Some b → from s k ≡ signed b ∷ from s (b + 1)
+found s k None b h e = absurd (search rules)
+found s k (Some i) b h e =
+    let same : i ≡ b = search rules in
+    let there : k + (i - k) ≡ i = omega (arith, h.0) in
+    let past : from s k ≡ from s i = skipped s (i - k) k (omega (arith, h.0, h.1)) (λ j l u. h.3 j l (omega (arith, u, h.0)) (omega (arith, u, h.0, h.1))) ∙ ap (from s) there in
+    let here : from s i ≡ signed i ∷ from s (i + 1) = from_held s i (i + 1) (signed i) h.1 (omega arith) refl h.2 in
+    subst (λ j. from s k ≡ signed j ∷ from s (j + 1)) same (past ∙ here)
+
+pub returns-in_err-bit-clause-steps : goal.returns-in_err-bit-clause-steps
 unfolding coming
-returns-then-contains c =
-    let k = c.loop-self.self.bit in
-    let h = c.loop-self-test.true in
-    let next : k + 1 ≡ suc k = omega arith in
-    record {
-      steps = sym c.loop-self.invariant.2 ∙ from_held c.loop-self.self.set k (k + 1) _ h next (action_of k h) (sym c.contains.ensures ∙ c.if-contains.true);
-      goes = firm ((tt, tt, omega arith)) (λ h. search rules);
-    }
+returns-in_err-bit-clause-steps c =
+    let s = c.args.self.now.set in
+    let h : Finds s c.args.self.now.bit c.find.result = first_from_Range _ _ _ _ (λ k. has s (signed k) ≡ true) (λ k. k < 63 → has s (signed k) ≡ false) c.find.ensures.ran (λ x q k. search rules) (λ x q k. (search rules, λ u. search rules)) in
+    let none = ended s c.args.self.now.bit c.find.result h c.in_err-bit.was in
+    subst (λ r. Comes (coming c.args.self.now) r (coming c.args.self.now)) (sym c.from_residual.ensures) (none, none)
 
-pub loop-self-preserved : goal.loop-self-preserved
-loop-self-preserved c =
-    let k = c.loop-self.self.bit in
-    let h = c.loop-self-test.true in
-    let next : k + 1 ≡ suc k = omega arith in
-    (c.loop-self.invariant.0, omega arith, sym (from_passed c.loop-self.self.set k (k + 1) _ h next (action_of k h) (sym c.contains.ensures ∙ c.if-contains.false)) ∙ c.loop-self.invariant.2)
-
-pub returns : goal.returns
+pub returns-clause-steps : goal.returns-clause-steps
 unfolding coming
-returns c =
-    let end = from_end c.loop-self.self.set c.loop-self.self.bit c.loop-self-test.false in
-    record { steps = (sym c.loop-self.invariant.2 ∙ end, end); goes = firm (tt) (λ h. search rules) }
+returns-clause-steps c =
+    let s = c.args.self.now.set in
+    let h : Finds s c.args.self.now.bit c.find.result = first_from_Range _ _ _ _ (λ k. has s (signed k) ≡ true) (λ k. k < 63 → has s (signed k) ≡ false) c.find.ensures.ran (λ x q k. search rules) (λ x q k. (search rules, λ u. search rules)) in
+    let is : to_z w8 (of_z w8 c.action_at.result) ≡ signed c.in_ok-bit.bit = search rules in
+    found s c.args.self.now.bit c.find.result c.in_ok-bit.bit h c.in_ok-bit.was ∙ ap (λ (a : ℤ). a ∷ from s (c.in_ok-bit.bit + 1)) (sym is)
