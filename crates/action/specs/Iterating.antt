@@ -8,7 +8,7 @@ use Rattle.action.specs.Sets.{has, rising}
 unfoldable pub coming : Actions → List ℤ
 coming w = kept (has w.set) (rising (63 - w.bit) w.bit)
 
--- What one step of a walk gives: the first of the actions that were to come, or nothing where none was.
-abbrev pub Comes : List ℤ → Option ℤ → List ℤ → Type 0
+-- What one step of a walk gives: the first of what was to come, or nothing where nothing was.
+abbrev pub Comes : {A : Type 0} → List A → Option A → List A → Type 0
 Comes xs None ys = (xs ≡ []) × (ys ≡ [])
 Comes xs (Some a) ys = xs ≡ a ∷ ys

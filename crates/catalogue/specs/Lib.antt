@@ -1,3 +1,4 @@
 pub mod Catalogue
 pub mod Systems
 pub mod Layers
+pub mod Walking

@@ -8,6 +8,10 @@ ghost use Rattle.catalogue.specs.Catalogue.{Module, Lawful, state_in, codes as c
 
 use action::ActionSet;
 
+mod moves;
+
+pub use moves::Moves;
+
 // One thing that a module can do in a state: an action, and the code of the state that it leads to.
 #[derive(Clone, Copy, Debug, Default, PartialEq, Eq)]
 pub struct Move {
