@@ -1,5 +1,5 @@
 -- The rows that a comparison leaves in the table, and lines written one after the other. Assumes nothing.
-use Rattle.std.proofs.Common.{◌≡◌, ℕ, suc, ◌+◌, ◌-◌, ◌<◌, ◌≤◌, Bool, true, false, ltb, List, [], ◌++◌, map, length, get_or, take, drop, IfOk, Ok, Err, Result, sym, refl, ap, ◌∙◌, arith}
+use Rattle.std.proofs.Common.{◌≡◌, ℕ, suc, ◌+◌, ◌<◌, ◌≤◌, Bool, true, false, ltb, List, [], ◌++◌, map, length, get_or, take, drop, IfOk, Ok, Err, Result, sym, refl, ap, ◌∙◌, arith}
 use native.Mathlib.Nat.{min-le_left}
 use Rattle.std.proofs.lemmas.List.{append_assoc, append-nil, drop_all, length-map, take-append-le, take_all}
 use Rattle.std.proofs.lemmas.Result.{IfOk-weaker}
@@ -92,12 +92,11 @@ pub first_text : (s b x y : List ℕ) → s ≡ [] → b ≡ s ++ x → x ≡ y 
 first_text s b x y e p q = p ∙ ap (λ (w : List ℕ). w ++ x) e ∙ q
 
 -- two modules that were compared, and the line and the rows that are shown of them
-pub compared_shown : {X E : Type 0} (r : Result X E) (ms : Catalogue) (new old : ℕ) (table after : List PairRow) (v : Compared) (found : Result Compared CompareFault) (s₀ s₁ s₂ : List ℕ) → Ok v ≡ answer ms new old (length table) → after ≡ table_after ms new old table → found ≡ answer ms new old (length table) → s₁ ≡ s₀ ++ answer_line new old found → IfOk r (λ _. s₂ ≡ s₁ ++ each row_line (take (v.pairs - 0) after)) → IfOk r (λ _. s₂ ≡ s₀ ++ comparison_within ms (length table) new old)
+pub compared_shown : {X E : Type 0} (r : Result X E) (ms : Catalogue) (new old : ℕ) (table after : List PairRow) (v : Compared) (found : Result Compared CompareFault) (s₀ s₁ s₂ : List ℕ) → Ok v ≡ answer ms new old (length table) → after ≡ table_after ms new old table → found ≡ answer ms new old (length table) → s₁ ≡ s₀ ++ answer_line new old found → IfOk r (λ _. s₂ ≡ s₁ ++ each row_line (take v.pairs after)) → IfOk r (λ _. s₂ ≡ s₀ ++ comparison_within ms (length table) new old)
 compared_shown r ms new old table after v found s₀ s₁ s₂ e t f p h =
-    let z : v.pairs - 0 ≡ v.pairs = omega arith in
-    made_two r (comparison_line ms (length table) new old) (each row_line (take (v.pairs - 0) after)) (row_lines (module_in ms new) (module_in ms old) (answer ms new old (length table))) s₀ s₁ s₂
+    made_two r (comparison_line ms (length table) new old) (each row_line (take v.pairs after)) (row_lines (module_in ms new) (module_in ms old) (answer ms new old (length table))) s₀ s₁ s₂
     (p ∙ ap (λ (w : Result Compared CompareFault). s₀ ++ answer_line new old w) f)
-    (ap (λ n. each row_line (take n after)) z ∙ ap (λ (w : List PairRow). each row_line (take v.pairs w)) t ∙ ap (λ (w : List PairRow). each row_line w) (filled_rows ms new old table v e) ∙ ap (λ (w : Result Compared CompareFault). row_lines (module_in ms new) (module_in ms old) w) e)
+    (ap (λ (w : List PairRow). each row_line (take v.pairs w)) t ∙ ap (λ (w : List PairRow). each row_line w) (filled_rows ms new old table v e) ∙ ap (λ (w : Result Compared CompareFault). row_lines (module_in ms new) (module_in ms old) w) e)
     h
 
 pub refused_shown : (ms : Catalogue) (new old table : ℕ) (why : CompareFault) (found : Result Compared CompareFault) (s₀ s₁ : List ℕ) → Err why ≡ answer ms new old table → found ≡ answer ms new old table → s₁ ≡ s₀ ++ answer_line new old found → s₁ ≡ s₀ ++ comparison_within ms table new old

@@ -9,17 +9,8 @@ ghost use Rattle.comparison_text.specs.Text.{answer_line, comparison_lines, comp
 
 use catalogue::Catalogue;
 use compare::compare;
-use pair_table::{CompareFault, Compared, PairRow};
+use pair_table::{CompareFault, Compared, MOST_ROWS, PairRow};
 use std::alloc::{AllocError, Global};
-
-// The rows of the table that modules are compared in: as many as are ever filled.
-const TABLE_ROWS: usize = 32768;
-
-const NO_PAIR: PairRow = PairRow {
-    new: 0,
-    old: 0,
-    rank: 0,
-};
 
 // The line of a comparison.
 fn add_answer(
@@ -31,26 +22,9 @@ fn add_answer(
     ensures { Added out.old out.new (answer_line new old answer) result }
 {
     match answer {
-        Ok(found) => {
-            let pairs = found.pairs;
-            let rank = found.rank;
-            writeln!(out, "{new} {old} {pairs} {rank}")
-        }
-        Err(fault) => {
-            let number = fault.number();
-            writeln!(out, "{new} {old} {number}")
-        }
+        Ok(Compared { pairs, rank }) => writeln!(out, "{new} {old} {pairs} {rank}"),
+        Err(fault) => writeln!(out, "{new} {old} {fault}"),
     }
-}
-
-// The line of a row.
-fn add_row(out: &mut String, row: PairRow) -> Result<(), AllocError>
-    ensures { Added out.old out.new (row_line row) result }
-{
-    let new = row.new;
-    let old = row.old;
-    let rank = row.rank;
-    writeln!(out, "{new} {old} {rank}")
 }
 
 // The lines of some rows.
@@ -58,7 +32,7 @@ fn add_rows(out: &mut String, rows: &[PairRow]) -> Result<(), AllocError>
     ensures { Added out.old out.new (each row_line rows.now) result }
 {
     for row in rows {
-        add_row(out, *row)?;
+        writeln!(out, "{row}")?;
     }
     Ok(())
 }
@@ -95,7 +69,8 @@ fn add_all<C: Catalogue>(
     Ok(())
 }
 
-// One new module with one old one, and the rows.
+// One new module with one old one, and the rows. Without this function, whose five parameters `comparison_text` makes or has,
+// the proof of that one outgrows the memory of a check.
 fn add_comparison<C: Catalogue>(
     out: &mut String,
     catalogue: &C,
@@ -108,10 +83,7 @@ fn add_comparison<C: Catalogue>(
     let answer = compare(catalogue, new, old, table);
     add_answer(out, new, old, answer)?;
     match answer {
-        Ok(found) => {
-            let pairs = found.pairs;
-            add_rows(out, &table[0..pairs])
-        }
+        Ok(found) => add_rows(out, &table[..found.pairs]),
         Err(_) => Ok(()),
     }
 }
@@ -120,7 +92,7 @@ fn add_comparison<C: Catalogue>(
 pub fn comparisons_text<C: Catalogue>(heap: Global, catalogue: &C) -> Result<String, AllocError>
     ensures { IfOk result (λ s. string_bytes s ≡ comparisons (C.Catalogue.meaning catalogue.now)) }
 {
-    let mut table = vec![in heap; NO_PAIR; TABLE_ROWS]?;
+    let mut table = vec![in heap; PairRow::default(); MOST_ROWS]?;
     let mut lines = String::new(heap);
     add_all(&mut lines, catalogue, &mut table)?;
     Ok(lines)
@@ -135,7 +107,7 @@ pub fn comparison_text<C: Catalogue>(
 ) -> Result<String, AllocError>
     ensures { IfOk result (λ s. string_bytes s ≡ comparison (C.Catalogue.meaning catalogue.now) new old) }
 {
-    let mut table = vec![in heap; NO_PAIR; TABLE_ROWS]?;
+    let mut table = vec![in heap; PairRow::default(); MOST_ROWS]?;
     let mut out = String::new(heap);
     add_comparison(&mut out, catalogue, new, old, &mut table)?;
     Ok(out)

@@ -3,10 +3,13 @@
 
 ghost use Rattle.std.specs.Prelude.{◌≡◌, Some};
 ghost use Rattle.pair_table.specs.Tables.{refusal_number};
-ghost use Rattle.pair_table.specs.Texts.{compare_fault_text};
+ghost use Rattle.pair_table.specs.Texts.{compare_fault_text, row_text};
 
 use std::error::Error;
 use std::fmt;
+
+// The most rows of a table that are ever filled.
+pub const MOST_ROWS: usize = 32_768;
 
 // A pair of a new and an old state, and the first round that drops it, 0 where none does.
 #[derive(Clone, Copy, Debug, Default, PartialEq, Eq)]
@@ -41,6 +44,16 @@ impl CompareFault {
             CompareFault::UnknownNew => 23,
             CompareFault::TableTooSmall => 24,
         }
+    }
+}
+
+// The new state, the old one, and the rank.
+impl fmt::Display for PairRow {
+    ghost output = { λ r. Some (row_text r) };
+
+    fn fmt<W: fmt::Write>(&self, f: &mut fmt::Formatter<W>) -> fmt::Result {
+        let PairRow { new, old, rank } = *self;
+        write!(f, "{new} {old} {rank}")
     }
 }
 

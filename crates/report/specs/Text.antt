@@ -1,5 +1,5 @@
 -- What is printed of a catalogue, byte by byte. Assumes nothing.
-use Rattle.std.specs.Prelude.{ℕ, zero, suc, List, [], ◌∷◌, ◌++◌, length, ℤ, pos, negsuc, Some, None, codes as ascii, decimal, Option}
+use Rattle.std.specs.Prelude.{ℕ, zero, suc, List, [], ◌∷◌, length, ℤ, pos, negsuc, Some, None, codes as ascii, decimal, Option}
 use Rattle.action.specs.Lists.{◌⧺◌}
 use Rattle.action.specs.Sets.{members}
 use Rattle.catalogue.specs.declared.Move.{Move}
@@ -15,10 +15,13 @@ action_text (negsuc n) = ascii "!" ⧺ decimal (suc n)
 abbrev pub move_text : Move → List ℕ
 move_text s = action_text s.action ⧺ ascii ">" ⧺ decimal s.target
 
--- a space, and the target of the tick, or a dash where time cannot pass
+-- the target of the tick, or a dash where time cannot pass; with a space in front
+abbrev pub tick_word : Option ℕ → List ℕ
+tick_word None = ascii "-"
+tick_word (Some d) = decimal d
+
 abbrev pub tick_text : Option ℕ → List ℕ
-tick_text None = ascii " -"
-tick_text (Some d) = ascii " " ⧺ decimal d
+tick_text t = ascii " " ⧺ tick_word t
 
 -- each with a space in front; where there is none, a space and a dash
 abbrev pub spaced : {A : Type 0} → (A → List ℕ) → List A → List ℕ
@@ -56,7 +59,11 @@ catalogue_lines name ms =
     name ⧺ ascii ": modules " ⧺ decimal (length ms) ⧺ ascii "\n"
     ⧺ numbered module_lines 0 ms
 
--- a file that is refused: maker.tab 15 11
+-- a file that is refused, and why
+abbrev pub refused_line : List ℕ → List ℕ → List ℕ
+refused_line name why = name ⧺ ascii " " ⧺ why ⧺ ascii "\n"
+
+-- by a number and a place: maker.tab 15 11
 abbrev pub fault_line : List ℕ → ℕ → ℕ → List ℕ
 fault_line name number place = name ⧺ ascii " " ⧺ decimal number ⧺ ascii " " ⧺ decimal place ⧺ ascii "\n"
 

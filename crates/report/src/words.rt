@@ -1,13 +1,12 @@
 // The words of a line: an action, a tick, a list of moves or of urgent actions.
-ghost use Rattle.std.specs.Prelude.{Some, codes as ascii};
-ghost use Rattle.action.specs.Lists.{◌⧺◌};
+ghost use Rattle.std.specs.Prelude.{Some};
 ghost use Rattle.action.specs.Sets.{members};
 ghost use Rattle.catalogue.specs.Catalogue.{state_in};
-ghost use Rattle.report.specs.Text.{action_text, move_text, tick_text, listed};
+ghost use Rattle.report.specs.Text.{action_text, move_text, tick_word, listed};
 ghost use Rattle.report.specs.Adding.{Added};
 
 use action::ActionSet;
-use catalogue::{Catalogue, Move};
+use catalogue::{Catalogue, Move, Moves};
 use std::alloc::AllocError;
 use std::fmt;
 
@@ -36,26 +35,37 @@ impl fmt::Display for ActionText {
     }
 }
 
-// The target of a tick, with a space in front.
-fn add_tick(out: &mut String, tick: Option<u32>) -> Result<(), AllocError>
-    ensures { Added out.old out.new (tick_text tick) result }
-{
-    match tick {
-        None => write!(out, " -"),
-        Some(target) => write!(out, " {target}"),
+// A move, as `?7>3`.
+#[derive(Clone, Copy)]
+struct MoveText(Move);
+
+impl fmt::Display for MoveText {
+    ghost output = { λ m. Some (move_text m.0) };
+
+    fn fmt<W: fmt::Write>(&self, f: &mut fmt::Formatter<W>) -> fmt::Result {
+        let action = ActionText(self.0.action);
+        let target = self.0.target;
+        write!(f, "{action}>{target}")
     }
 }
 
-// A move, with a space in front.
-fn add_move(out: &mut String, step: Move) -> Result<(), AllocError>
-    ensures { Added out.old out.new (ascii " " ⧺ move_text step) result }
-{
-    let action = ActionText(step.action);
-    let target = step.target;
-    write!(out, " {action}>{target}")
+// The target of a tick, or a dash where time cannot pass.
+#[derive(Clone, Copy)]
+struct TickText(Option<u32>);
+
+impl fmt::Display for TickText {
+    ghost output = { λ t. Some (tick_word t.0) };
+
+    fn fmt<W: fmt::Write>(&self, f: &mut fmt::Formatter<W>) -> fmt::Result {
+        match self.0 {
+            None => write!(f, "-"),
+            Some(target) => write!(f, "{target}"),
+        }
+    }
 }
 
-// The moves of a state.
+// The moves of a state, each with a space in front. One function for this list and the next would take the walk, a closure
+// for what is printed of an item, and clauses on both, to save six lines.
 fn add_moves<C: Catalogue>(
     out: &mut String,
     catalogue: &C,
@@ -64,37 +74,28 @@ fn add_moves<C: Catalogue>(
 ) -> Result<(), AllocError>
     ensures { Added out.old out.new (listed move_text (state_in (C.Catalogue.meaning catalogue.now) part code).moves) result }
 {
-    let mut number = 0;
-    while let Some(step) = catalogue.move_at(part, code, number) {
-        add_move(out, step)?;
-        number += 1;
-    }
-    if number == 0 {
-        write!(out, " -")?;
+    let mut rest = Moves::of(catalogue, part, code);
+    let Some(first) = rest.next() else {
+        return write!(out, " -");
+    };
+    write!(out, " {}", MoveText(first))?;
+    for step in rest {
+        write!(out, " {}", MoveText(step))?;
     }
     Ok(())
 }
 
-// An urgent action, with a space in front.
-fn add_action(out: &mut String, number: i8) -> Result<(), AllocError>
-    ensures { Added out.old out.new (ascii " " ⧺ action_text number) result }
-{
-    let action = ActionText(number);
-    write!(out, " {action}")
-}
-
-// The urgent actions of a state, in rising order.
+// The urgent actions of a state, in rising order, each with a space in front.
 fn add_urgent(out: &mut String, urgent: ActionSet) -> Result<(), AllocError>
     ensures { Added out.old out.new (listed action_text (members urgent)) result }
 {
     let mut rest = urgent.iter();
     let Some(first) = rest.next() else {
-        write!(out, " -")?;
-        return Ok(());
+        return write!(out, " -");
     };
-    add_action(out, first)?;
+    write!(out, " {}", ActionText(first))?;
     for action in rest {
-        add_action(out, action)?;
+        write!(out, " {}", ActionText(action))?;
     }
     Ok(())
 }

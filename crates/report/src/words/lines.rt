@@ -1,12 +1,13 @@
 // The lines that tell of a file: what it means, or why it is refused.
-ghost use Rattle.std.specs.Prelude.{◌≡◌, IfOk, string_bytes};
+ghost use Rattle.std.specs.Prelude.{◌≡◌, IfOk, IfSome, string_bytes};
 ghost use Rattle.catalogue.specs.Catalogue.{module_in, state_in};
-ghost use Rattle.report.specs.Text.{state_line, module_lines, catalogue_lines, fault_line, long_line};
+ghost use Rattle.report.specs.Text.{state_line, module_lines, catalogue_lines, refused_line, long_line};
 ghost use Rattle.report.specs.Adding.{Added};
 
-use super::{add_moves, add_tick, add_urgent};
+use super::{TickText, add_moves, add_urgent};
 use catalogue::Catalogue;
 use std::alloc::{AllocError, Global};
+use std::fmt;
 
 // The line of a state.
 fn add_state<C: Catalogue>(
@@ -17,14 +18,12 @@ fn add_state<C: Catalogue>(
 ) -> Result<(), AllocError>
     ensures { Added out.old out.new (state_line part code (state_in (C.Catalogue.meaning catalogue.now) part code)) result }
 {
-    write!(out, "{part}.{code}: tick")?;
-    add_tick(out, catalogue.tick(part, code))?;
-    write!(out, "; urgent")?;
+    let tick = TickText(catalogue.tick(part, code));
+    write!(out, "{part}.{code}: tick {tick}; urgent")?;
     add_urgent(out, catalogue.urgent(part, code))?;
     write!(out, "; moves")?;
     add_moves(out, catalogue, part, code)?;
-    writeln!(out)?;
-    Ok(())
+    writeln!(out)
 }
 
 // The lines of a module: its own, and those of its states.
@@ -69,11 +68,11 @@ pub fn catalogue_text<C: Catalogue>(
     Ok(out)
 }
 
-// Why a file is refused, under its name: the number of the refusal, and its place in the file.
-pub fn fault_text(heap: Global, name: &str, number: u8, place: usize) -> Result<String, AllocError>
-    ensures { IfOk result (λ s. string_bytes s ≡ fault_line name.now number place) }
+// Why a file is refused, under its name.
+pub fn fault_text<E: fmt::Display>(heap: Global, name: &str, why: &E) -> Result<String, AllocError>
+    ensures { IfOk result (λ s. IfSome (E.output why.now) (λ t. string_bytes s ≡ refused_line name.now t)) }
 {
-    format!(in heap; "{name} {number} {place}\n")
+    format!(in heap; "{name} {why}\n")
 }
 
 // That a file is longer than a file may be, under its name.
