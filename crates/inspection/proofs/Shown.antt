@@ -1,5 +1,5 @@
 -- What is shown in each case. Assumes nothing.
-use Rattle.std.proofs.Common.{◌≡◌, ℕ, ◌<◌, ◌≤◌, Bool, true, false, ◌⊎◌, List, length, IfOk, Some, None, Ok, Err, string_bytes, Option, Result, String, unwrap_or, sym, ap, ◌∙◌, inl, inr, arith}
+use Rattle.std.proofs.Common.{◌≡◌, ℕ, ◌<◌, ◌≤◌, Bool, true, false, ◌⊎◌, List, length, IfOk, Some, None, Ok, Err, string_bytes, Option, Result, String, unwrap_or, sym, ap, ◌∙◌, inl, inr}
 use Rattle.std.specs.declared.alloc.AllocError.{AllocError}
 use Rattle.std.specs.declared.alloc.Global.{Global}
 use Rattle.std.proofs.lemmas.Bool.{lt-ltb, le-ltb}
@@ -7,7 +7,10 @@ use Rattle.table_format.specs.declared.fault.TableFault.{TableFault}
 use Rattle.table_format.specs.declared.fault.TableFault.TheVariants.{NoMemory}
 use Rattle.table_format.specs.Reading.{meaning}
 use Rattle.table_format.specs.Taking.{fault, number, place}
-use Rattle.report.specs.Text.{longest_file, catalogue_lines, fault_line, long_line}
+use Rattle.table_format.specs.Texts.{table_fault_text}
+use Rattle.table_format.proofs.Texts.{fault_told}
+use Rattle.report.specs.Text.{longest_file, catalogue_lines, refused_line, long_line}
+use Rattle.report.proofs.Lists.{told_line}
 use Rattle.inspection.specs.Inspected.{file_name, tried, inspected}
 
 pub made_as : (r : Result (String Global) AllocError) (x y : List ℕ) → x ≡ y → IfOk r (λ s. string_bytes s ≡ x) → IfOk r (λ s. string_bytes s ≡ y)
@@ -25,10 +28,6 @@ tried_shown b o l e = ap (tried b) (sym e) ∙ sym (ap (λ (t : Bool). elim t [ 
 pub table_shown : (b w : List ℕ) → length b ≤ longest_file → fault b ≡ None → w ≡ b → catalogue_lines file_name (meaning w) ≡ inspected b
 table_shown b w l e p = ap (λ (x : List ℕ). catalogue_lines file_name (meaning x)) p ∙ tried_shown b None l e
 
--- want of memory has no number
-pub fault_shown : (b : List ℕ) (f : TableFault) (n p : ℕ) → length b ≤ longest_file → Some n ≡ number f → p ≡ place f → (fault b ≡ Some f) ⊎ ((f ≡ NoMemory) × (fault b ≡ None)) → fault_line file_name n p ≡ inspected b
-fault_shown b f n p l e q (inl h) = ap (λ (z : Option ℕ). fault_line file_name (unwrap_or z 0) p) e ∙ ap (fault_line file_name (unwrap_or (number f) 0)) q ∙ tried_shown b (Some f) l h
-fault_shown b f n p l e q (inr h) =
-    let x : Some n ≡ number NoMemory = e ∙ ap number h.0 in
-    let z : ◌≡◌ {A = ℕ} 0 1 = cc in
-    absurd (omega arith)
+pub fault_shown : (b : List ℕ) (f : TableFault) → length b ≤ longest_file → (f ≡ NoMemory → ⊥) → (fault b ≡ Some f) ⊎ ((f ≡ NoMemory) × (fault b ≡ None)) → refused_line file_name (table_fault_text f) ≡ inspected b
+fault_shown b f l n (inl h) = ap (refused_line file_name) (fault_told f n) ∙ told_line file_name (unwrap_or (number f) 0) (place f) ∙ tried_shown b (Some f) l h
+fault_shown b f l n (inr h) = absurd (n h.0)

@@ -7,6 +7,7 @@ ghost use Rattle.inspection.specs.Inspected.{inspected};
 use maker_table::Table;
 use report::{LONGEST_FILE, catalogue_text, fault_text, long_text};
 use std::alloc::{AllocError, Global};
+use table_format::TableFault;
 
 // The file that is shown.
 pub const FILE_NAME: &str = "maker.tab";
@@ -20,9 +21,7 @@ pub fn inspect_table(heap: Global, file: Vec<u8>) -> Result<String, AllocError>
     }
     match Table::take(heap, file) {
         Ok(table) => catalogue_text(heap, FILE_NAME, &table),
-        Err(fault) => match fault.number() {
-            Some(number) => fault_text(heap, FILE_NAME, number, fault.place()),
-            None => Err(AllocError),
-        },
+        Err(fault) if fault == TableFault::NoMemory => Err(AllocError),
+        Err(fault) => fault_text(heap, FILE_NAME, &fault),
     }
 }

@@ -5,7 +5,7 @@ use Rattle.std.proofs.lemmas.List.{append_assoc, append-nil, get_or_past, drop_a
 use Rattle.std.proofs.lemmas.Bool.{cases_lt}
 use Rattle.action.specs.Lists.{nth}
 use Rattle.catalogue.specs.Catalogue.{Catalogue, Lawful, state_in, state, absent, most_moves}
-use Rattle.report.specs.Text.{spaced, listed, numbered}
+use Rattle.report.specs.Text.{numbered, refused_line, fault_line}
 
 module _ {A : Type 0} where
   pub drop_at : (xs : List A) (k : ℕ) (d : A) → k < length xs → drop k xs ≡ get_or xs k d ∷ drop (suc k) xs
@@ -39,3 +39,7 @@ module_head part n b = ascii "module " ++ (decimal part ++ (ascii ": codes " ++ 
 
 pub module_then : (part n b n' b' : ℕ) (r : List ℕ) → n ≡ n' → b ≡ b' → module_head part n b ++ r ≡ ascii "module " ++ (decimal part ++ (ascii ": codes " ++ (decimal n' ++ (ascii ", start " ++ (decimal b' ++ (ascii "\n" ++ r))))))
 module_then part n b n' b' r p q = ap (λ k. module_head part k b ++ r) p ∙ ap (λ k. module_head part n' k ++ r) q ∙ simp append_assoc
+
+-- a fault that prints as its number and its place
+pub told_line : (name : List ℕ) (n k : ℕ) → refused_line name (decimal n ++ (ascii " " ++ decimal k)) ≡ fault_line name n k
+told_line name n k = ap (λ (w : List ℕ). name ++ (ascii " " ++ w)) (append_assoc (decimal n) (ascii " " ++ decimal k) (ascii "\n") ∙ ap (λ (w : List ℕ). decimal n ++ w) (append_assoc (ascii " ") (decimal k) (ascii "\n")))

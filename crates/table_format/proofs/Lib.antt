@@ -9,3 +9,4 @@ pub mod Law
 pub mod Passing
 pub mod Taken
 pub mod Worked
+pub mod Texts

@@ -1,6 +1,7 @@
-use Rattle.std.proofs.Common.{vec_items, arith}
+use Rattle.std.proofs.Common.{vec_items, arith, rules}
 use Rattle.table_format.specs.Reading.{meaning}
-use Rattle.report.specs.Text.{catalogue_lines, fault_line, long_line}
+use Rattle.report.specs.Text.{catalogue_lines, refused_line, long_line}
+use Rattle.table_format.specs.Texts.{table_fault_text}
 use Rattle.maker_table.specs.Table.{written}
 use Rattle.inspection.specs.Inspected.{file_name, inspected}
 use Rattle.inspection.proofs.Shown.{made_as, long_shown, table_shown, fault_shown}
@@ -15,7 +16,7 @@ returns-in-Ok c =
     made_as c.catalogue_text.result (catalogue_lines file_name (meaning (written c.in-Ok.table))) (inspected (vec_items c.args.file))
     (table_shown (vec_items c.args.file) (written c.in-Ok.table) (omega (arith, c.args.file.ok.0)) t.0 t.1) c.catalogue_text.ensures
 
-pub returns-in-Some : goal.returns-in-Some
-returns-in-Some c =
-    made_as c.fault_text.result (fault_line file_name c.in-Some.number c.place.result) (inspected (vec_items c.args.file))
-    (fault_shown (vec_items c.args.file) c.in-Err.fault c.in-Some.number c.place.result (omega (arith, c.args.file.ok.0)) c.in-Some.ensures c.place.ensures c.in-Err.ensures.answer) c.fault_text.ensures
+pub returns-in-Err-2 : goal.returns-in-Err-2
+returns-in-Err-2 c =
+    made_as c.fault_text.result (refused_line file_name (table_fault_text c.in-Err.fault)) (inspected (vec_items c.args.file))
+    (fault_shown (vec_items c.args.file) c.in-Err.fault (omega (arith, c.args.file.ok.0)) (λ e. search rules) c.in-Err.ensures.answer) c.fault_text.ensures
