@@ -2,29 +2,13 @@
 #![tactic(auto)]
 
 use anyhow::anyhow;
+use files::file_bytes;
 use output::{BOOK_NAME, Request, TABLE_NAME, output_text};
 use report::LONGEST_FILE;
+use std::env;
 use std::fs::File;
-use std::io::{ErrorKind, Read};
-use std::{env, io};
 
 const USAGE: &str = "bench takes no arguments, or the numbers of a new and an old module";
-
-// The bytes of a file. An absent file counts as empty, and of a long one no more is read than shows that it is long.
-fn read_file(rt: &HostRuntime, name: &str) -> io::Result<Vec<u8>> {
-    let mut bytes = Vec::new(rt.alloc());
-    match File::open(rt, name) {
-        Ok(file) => {
-            file.take(LONGEST_FILE as u64 + 1).read_to_end(&mut bytes)?;
-        }
-        Err(error) => {
-            if error.kind() != ErrorKind::NotFound {
-                return Err(error);
-            }
-        }
-    }
-    Ok(bytes)
-}
 
 // What the arguments ask for.
 fn request(rt: &HostRuntime) -> anyhow::Result<Request> {
@@ -42,15 +26,11 @@ fn request(rt: &HostRuntime) -> anyhow::Result<Request> {
     Ok(Request::Comparison(new.parse::<usize>()?, old.parse::<usize>()?))
 }
 
-fn run(rt: &HostRuntime) -> anyhow::Result<()> {
-    let asked = request(rt)?;
-    let book = read_file(rt, BOOK_NAME)?;
-    let table = read_file(rt, TABLE_NAME)?;
+fn main(rt: HostRuntime) -> anyhow::Result<()> {
+    let asked = request(&rt)?;
+    let book = file_bytes(rt.alloc(), File::open(&rt, BOOK_NAME), LONGEST_FILE + 1)?;
+    let table = file_bytes(rt.alloc(), File::open(&rt, TABLE_NAME), LONGEST_FILE + 1)?;
     let text = output_text(rt.alloc(), asked, book, table)?;
     print!(rt; "{text}")?;
     Ok(())
-}
-
-fn main(rt: HostRuntime) -> anyhow::Result<()> {
-    run(&rt)
 }

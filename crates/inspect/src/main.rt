@@ -1,35 +1,14 @@
 // Shows the maker's table in the working folder: what it means, or why it is refused.
 #![tactic(auto)]
 
+use files::file_bytes;
 use inspection::{FILE_NAME, inspect_table};
 use report::LONGEST_FILE;
 use std::fs::File;
-use std::io;
-use std::io::{ErrorKind, Read};
 
-// The bytes of a file. An absent file counts as empty, and of a long one no more is read than shows that it is long.
-fn read_file(rt: &HostRuntime, name: &str) -> io::Result<Vec<u8>> {
-    let mut bytes = Vec::new(rt.alloc());
-    match File::open(rt, name) {
-        Ok(file) => {
-            file.take(LONGEST_FILE as u64 + 1).read_to_end(&mut bytes)?;
-        }
-        Err(error) => {
-            if error.kind() != ErrorKind::NotFound {
-                return Err(error);
-            }
-        }
-    }
-    Ok(bytes)
-}
-
-fn run(rt: &HostRuntime) -> anyhow::Result<()> {
-    let file = read_file(rt, FILE_NAME)?;
+fn main(rt: HostRuntime) -> anyhow::Result<()> {
+    let file = file_bytes(rt.alloc(), File::open(&rt, FILE_NAME), LONGEST_FILE + 1)?;
     let text = inspect_table(rt.alloc(), file)?;
     print!(rt; "{text}")?;
     Ok(())
-}
-
-fn main(rt: HostRuntime) -> anyhow::Result<()> {
-    run(&rt)
 }
