@@ -1,15 +1,17 @@
 // What the program `swaps` prints of a catalogue: a line of its first modules, and the swaps that are tried in it.
 #![tactic(auto)]
 
-ghost use Rattle.std.specs.Prelude.{◌≡◌, [], length, IfOk, Err, string_bytes, OnOk};
+ghost use Rattle.std.specs.Prelude.{◌≡◌, length, map, min, IfOk, string_bytes, OnOk};
+ghost use Rattle.std.specs.List.{range_with_len};
 ghost use Rattle.report.specs.Adding.{Added};
-ghost use Rattle.line.specs.Meaning.{line_of, Drawing};
-ghost use Rattle.swaps_text.specs.Text.{trial_line, slot_trials, trials, trial_rows, told, draw_line, first_slots, swap_lines};
+ghost use Rattle.line_rules.specs.Line.{most_slots};
+ghost use Rattle.line.specs.Meaning.{line_of};
+ghost use Rattle.swaps_text.specs.Text.{trial_line, slot_trials, trials, trial_rows, told, swap_lines};
 ghost use Rattle.swaps_text.specs.Trying.{Tried};
 
 use catalogue::Catalogue;
 use line::{Line, SlotPlan, draw};
-use line_rules::{DrawFault, SwapFault};
+use line_rules::SwapFault;
 use pair_table::PairRow;
 use std::alloc::{AllocError, Global};
 
@@ -19,33 +21,11 @@ const MOST_SLOTS: usize = 16;
 // The rows of the table that each swap is tried with.
 const TABLE_ROWS: usize = 4096;
 
-const NO_PAIR: PairRow = PairRow {
-    new: 0,
-    old: 0,
-    rank: 0,
-};
-
 // Each port is sent to itself.
 const UNRENAMED: [i8; 31] = [
     1, 2, 3, 4, 5, 6, 7, 8, 9, 10, 11, 12, 13, 14, 15, 16, 17, 18, 19, 20, 21, 22, 23, 24, 25, 26,
     27, 28, 29, 30, 31,
 ];
-
-// The line of a swap that is refused.
-fn add_refused(
-    out: &mut String,
-    slot: usize,
-    part: usize,
-    fault: SwapFault,
-) -> Result<(), AllocError>
-    ensures { Added out.old out.new (trial_line slot part (Err fault)) result }
-{
-    let number = fault.number();
-    match fault {
-        SwapFault::Slower(rank) => writeln!(out, "{slot} {part} {number} {rank}"),
-        _ => writeln!(out, "{slot} {part} {number}"),
-    }
-}
 
 // The line of a swap.
 fn add_trial(
@@ -58,11 +38,12 @@ fn add_trial(
 {
     match outcome {
         Ok(_) => writeln!(out, "{slot} {part} ok"),
-        Err(fault) => add_refused(out, slot, part, fault),
+        Err(fault) => writeln!(out, "{slot} {part} {fault}"),
     }
 }
 
-// Tries each module in a slot.
+// Tries each module in a slot. The line and the table change, the text grows, and the catalogue stays: a struct of the four would
+// lend out three `&mut`, and say in its clauses what stays beside what changes.
 fn try_slot<C: Catalogue>(
     out: &mut String,
     catalogue: &C,
@@ -97,42 +78,40 @@ fn try_all<C: Catalogue>(
 }
 
 // Each module tried in each slot of a line.
-fn trials_text<C: Catalogue>(heap: Global, catalogue: &C, drawn: Line) -> Result<String, AllocError>
-    ensures { IfOk result (λ s. string_bytes s ≡ told (C.Catalogue.meaning catalogue.now) (line_of drawn) (trials trial_rows (length (C.Catalogue.meaning catalogue.now)) (length (line_of drawn).slots))) }
+fn trials_text<C: Catalogue>(
+    heap: Global,
+    catalogue: &C,
+    mut line: Line,
+) -> Result<String, AllocError>
+    ensures { IfOk result (λ s. string_bytes s ≡ told (C.Catalogue.meaning catalogue.now) (line_of line) (trials trial_rows (length (C.Catalogue.meaning catalogue.now)) (length (line_of line).slots))) }
 {
-    let mut line = drawn;
-    let mut table = vec![in heap; NO_PAIR; TABLE_ROWS]?;
+    let mut table = vec![in heap; PairRow::default(); TABLE_ROWS]?;
     let mut out = String::new(heap);
     try_all(&mut out, catalogue, &mut line, &mut table)?;
     Ok(out)
 }
 
-// Why the line is not drawn.
-fn draw_text(heap: Global, number: u8) -> Result<String, AllocError>
-    ensures { IfOk result (λ s. string_bytes s ≡ draw_line number) }
+// The plan of the first modules, as many as a line may have slots, each in the slot with its number and unrenamed.
+fn first_plans<'a, C: Catalogue>(
+    heap: Global,
+    catalogue: &C,
+    entries: &'a [i8],
+) -> Result<Vec<SlotPlan<'a>>, AllocError>
+    ensures { IfOk result (λ v. v.items ≡ map (λ holds. record { holds = holds; entries = entries.entry }) (range_with_len 0 (min (length (C.Catalogue.meaning catalogue.now)) most_slots))) }
 {
-    format!(in heap; "draw {number}\n")
-}
-
-// The line of the first modules, as many as a line may have slots, each unrenamed, and nothing hidden.
-fn draw_first<C: Catalogue>(catalogue: &C) -> Result<Line, DrawFault>
-    ensures { Drawing (C.Catalogue.meaning catalogue.now) (first_slots (C.Catalogue.meaning catalogue.now)) [] result }
-{
-    let entries = &UNRENAMED;
-    let mut plans = [SlotPlan { holds: 0, entries }; MOST_SLOTS];
-    for holds in 0..MOST_SLOTS {
-        plans[holds] = SlotPlan { holds, entries };
-    }
     let count = catalogue.modules().min(MOST_SLOTS);
-    draw(catalogue, &plans[0..count], &[])
+    (0..count)
+        .map(|holds| SlotPlan { holds, entries })
+        .collect(heap)
 }
 
 // Draws a line of the first modules and tries each module in each of its slots, a line each; or why it is not drawn.
 pub fn swaps_text<C: Catalogue>(heap: Global, catalogue: &C) -> Result<String, AllocError>
     ensures { IfOk result (λ s. string_bytes s ≡ swap_lines (C.Catalogue.meaning catalogue.now)) }
 {
-    match draw_first(catalogue) {
+    let plans = first_plans(heap, catalogue, &UNRENAMED)?;
+    match draw(catalogue, &plans, &[]) {
         Ok(drawn) => trials_text(heap, catalogue, drawn),
-        Err(fault) => draw_text(heap, fault.number()),
+        Err(fault) => format!(in heap; "draw {fault}\n"),
     }
 }
