@@ -1,7 +1,8 @@
 -- What is shown of the two files in each case. Assumes nothing.
-use Rattle.std.proofs.Common.{◌≡◌, ℕ, ◌-◌, ◌<◌, ◌≤◌, Bool, true, false, ◌⊎◌, List, length, take, IfOk, Some, None, string_bytes, Option, Result, String, sym, ap, ◌∙◌, inl, inr, arith}
+use Rattle.std.proofs.Common.{◌≡◌, ℕ, ◌<◌, ◌≤◌, Bool, true, false, ◌⊎◌, List, ◌++◌, length, take, drop, IfOk, codes as ascii, decimal, unwrap_or, refl, Some, None, string_bytes, Option, Result, String, sym, ap, subst, ◌∙◌, inl, inr, arith}
 use Rattle.std.specs.declared.alloc.AllocError.{AllocError}
 use Rattle.std.specs.declared.alloc.Global.{Global}
+use Rattle.std.proofs.lemmas.List.{append_assoc, take-append-le, take_all}
 use Rattle.std.proofs.lemmas.Result.{IfOk-weaker}
 use Rattle.std.proofs.lemmas.Bool.{lt-ltb, le-ltb}
 use Rattle.catalogue.specs.Catalogue.{Catalogue}
@@ -9,17 +10,24 @@ use Rattle.catalogue.specs.Layers.{joined}
 use Rattle.rows.specs.declared.row.Place.{Place}
 use Rattle.rows.specs.declared.row.ModuleRow.{ModuleRow}
 use Rattle.rows.specs.Opening.{opened}
+use Rattle.book_text.specs.Faults.{number_of, Where, where_of}
+use Rattle.book_text.specs.Faults.Where.{offset_at, place_at}
+use Rattle.book_text.specs.Texts.{place_text, book_fault_text}
 use Rattle.book_text.specs.Outcomes.{Outcome, outcome}
 use Rattle.book_text.specs.Outcomes.Outcome.{accepted}
 use Rattle.table_format.specs.declared.fault.TableFault.{TableFault}
 use Rattle.table_format.specs.declared.fault.TableFault.TheVariants.{NoMemory}
 use Rattle.table_format.specs.Reading.{meaning}
-use Rattle.table_format.specs.Taking.{fault}
-use Rattle.report.specs.Text.{longest_file, long_line}
+use Rattle.table_format.specs.Taking.{fault, number, place}
+use Rattle.table_format.specs.Texts.{table_fault_text}
+use Rattle.table_format.proofs.Texts.{fault_told}
+use Rattle.report.proofs.Lists.{told_line}
+use Rattle.report.specs.Text.{longest_file, long_line, refused_line}
+use Rattle.output.specs.declared.Taken.{Taken}
 use Rattle.output.specs.declared.FileFault.{FileFault}
-use Rattle.output.specs.declared.FileFault.TheVariants.{Table}
-use Rattle.output.specs.declared.Request.{Request}
-use Rattle.output.specs.Output.{book_name, table_name, place_rows, module_rows, file_fault_line, with_table, with_book, shown, asked_of, output}
+use Rattle.output.specs.declared.FileFault.TheVariants.{BookLong, Book, TableLong, Table}
+use Rattle.output.specs.Taking.{Took}
+use Rattle.output.specs.Output.{where_text, file_fault_text, book_name, table_name, place_rows, module_rows, file_fault_line, with_table, with_book, shown}
 
 module _ (show : Catalogue → List ℕ) (book table : List ℕ) where
   pub long_book : longest_file < length book → long_line book_name ≡ shown show book table
@@ -51,25 +59,27 @@ module _ (book table : List ℕ) (ps : List Place) (ms : List ModuleRow) (p m : 
   pub both_taken : (written : List ℕ) → fault table ≡ None → written ≡ table → (show : Catalogue → List ℕ) → show (joined (opened ps ms) (meaning written)) ≡ shown show book table
   both_taken written f e show = ap (λ (b : List ℕ). show (joined (opened ps ms) (meaning b))) e ∙ by_table show book table ps ms p m None short wide many reads brief f
 
--- a text that is made of a fault, which is not want of memory
-pub made_fault : (r : Result (String Global) AllocError) (why e : FileFault) → why ≡ e → (e ≡ Table NoMemory → ⊥) → IfOk r (λ s. string_bytes s ≡ file_fault_line e) → IfOk r (λ s. (string_bytes s ≡ file_fault_line why) × (why ≡ Table NoMemory → ⊥))
-made_fault r why e p n h = IfOk-weaker r (λ s. string_bytes s ≡ file_fault_line e) (λ s. (string_bytes s ≡ file_fault_line why) × (why ≡ Table NoMemory → ⊥)) (λ s q. (q ∙ ap file_fault_line (sym p), λ z. n (sym p ∙ z))) h
+-- a fault that is not want of memory, in print, and its line
+where_told : (w : Where) → place_text w ++ ascii "\n" ≡ where_text w
+where_told (offset_at k) = refl
+where_told (place_at m i) = append_assoc (decimal m) (ascii " " ++ decimal i) (ascii "\n") ∙ ap (λ (x : List ℕ). decimal m ++ x) (append_assoc (ascii " ") (decimal i) (ascii "\n"))
 
-pub fault_printed : (r : Result (String Global) AllocError) (q : Request) (book table : List ℕ) (e : FileFault) → (e ≡ Table NoMemory) ⊎ ((show : Catalogue → List ℕ) → file_fault_line e ≡ shown show book table) → IfOk r (λ s. (string_bytes s ≡ file_fault_line e) × (e ≡ Table NoMemory → ⊥)) → IfOk r (λ s. string_bytes s ≡ output q book table)
-fault_printed r q book table e (inl n) h = IfOk-weaker r (λ s. (string_bytes s ≡ file_fault_line e) × (e ≡ Table NoMemory → ⊥)) (λ s. string_bytes s ≡ output q book table) (λ s w. absurd (w.1 n)) h
-fault_printed r q book table e (inr f) h = IfOk-weaker r (λ s. (string_bytes s ≡ file_fault_line e) × (e ≡ Table NoMemory → ⊥)) (λ s. string_bytes s ≡ output q book table) (λ s w. w.0 ∙ f (asked_of q)) h
+pub fault_line_told : (e : FileFault) → (e ≡ Table NoMemory → ⊥) → file_fault_text e ++ ascii "\n" ≡ file_fault_line e
+fault_line_told BookLong n = refl
+fault_line_told (Book e) n =
+    append_assoc book_name (ascii " " ++ book_fault_text e) (ascii "\n")
+    ∙ ap (λ (x : List ℕ). book_name ++ (ascii " " ++ x)) (append_assoc (decimal (number_of e)) (ascii " " ++ place_text (where_of e)) (ascii "\n") ∙ ap (λ (x : List ℕ). decimal (number_of e) ++ (ascii " " ++ x)) (where_told (where_of e)))
+fault_line_told TableLong n = refl
+fault_line_told (Table e) n =
+    append_assoc table_name (ascii " " ++ table_fault_text e) (ascii "\n")
+    ∙ ap (refused_line table_name) (fault_told e (λ p. n (ap Table p))) ∙ told_line table_name (unwrap_or (number e) 0) (place e)
 
--- the rows that are used stand in front
-pub answer_printed : (r : Result (String Global) AllocError) (q : Request) (book table written : List ℕ) (ps : List Place) (ms : List ModuleRow) (i j : ℕ) → ((show : Catalogue → List ℕ) → show (joined (opened (take i ps) (take j ms)) (meaning written)) ≡ shown show book table) → IfOk r (λ s. string_bytes s ≡ asked_of q (joined (opened (take (i - 0) ps) (take (j - 0) ms)) (meaning written))) → IfOk r (λ s. string_bytes s ≡ output q book table)
-answer_printed r q book table written ps ms i j h k =
-    let a : i - 0 ≡ i = omega arith in
-    let b : j - 0 ≡ j = omega arith in
-    IfOk-weaker r (λ s. string_bytes s ≡ asked_of q (joined (opened (take (i - 0) ps) (take (j - 0) ms)) (meaning written))) (λ s. string_bytes s ≡ output q book table)
-    (λ s w. w ∙ ap (λ n. asked_of q (joined (opened (take n ps) (take (j - 0) ms)) (meaning written))) a ∙ ap (λ n. asked_of q (joined (opened (take i ps) (take n ms)) (meaning written))) b ∙ h (asked_of q)) k
+pub refused_printed : (r : Result (String Global) AllocError) (e : FileFault) → (e ≡ Table NoMemory → ⊥) → IfOk r (λ s. string_bytes s ≡ file_fault_text e ++ ascii "\n") → IfOk r (λ s. (string_bytes s ≡ file_fault_line e) × (e ≡ Table NoMemory → ⊥))
+refused_printed r e n h = IfOk-weaker r (λ s. string_bytes s ≡ file_fault_text e ++ ascii "\n") (λ s. (string_bytes s ≡ file_fault_line e) × (e ≡ Table NoMemory → ⊥)) (λ s q. (q ∙ fault_line_told e n, n)) h
 
--- what was asked of a catalogue, told of another that means the same
-pub asked_alike : (r : Result (String Global) AllocError) (q : Request) (a b : Catalogue) → a ≡ b → IfOk r (λ s. string_bytes s ≡ asked_of q a) → IfOk r (λ s. string_bytes s ≡ asked_of q b)
-asked_alike r q a b e h = IfOk-weaker r (λ s. string_bytes s ≡ asked_of q a) (λ s. string_bytes s ≡ asked_of q b) (λ s w. w ∙ ap (asked_of q) e) h
+-- what was written into a whole list
+pub rewritten : {A : Type 0} (n : ℕ) (xs ys : List A) → n ≡ length xs → take n (xs ++ drop (length xs) ys) ≡ xs
+rewritten n xs ys h = take-append-le n xs (drop (length xs) ys) (omega (arith, h)) ∙ take_all n xs (omega (arith, h))
 
-pub book_alike : (r : Result (String Global) AllocError) (q : Request) (a b table : List ℕ) → a ≡ b → IfOk r (λ s. string_bytes s ≡ output q a table) → IfOk r (λ s. string_bytes s ≡ output q b table)
-book_alike r q a b table e h = IfOk-weaker r (λ s. string_bytes s ≡ output q a table) (λ s. string_bytes s ≡ output q b table) (λ s w. w ∙ ap (λ (x : List ℕ). output q x table) e) h
+pub took_as : (book table : List ℕ) (ps' ps : List Place) (ms' ms : List ModuleRow) (t : Taken) → ps' ≡ ps → ms' ≡ ms → Took book table ps ms t → Took book table ps' ms' t
+took_as book table ps' ps ms' ms t p m h = subst (λ (x : List Place). Took book table x ms' t) (sym p) (subst (λ (x : List ModuleRow). Took book table ps x t) (sym m) h)

@@ -10,6 +10,8 @@ use Rattle.book_text.specs.Faults.Where.{offset_at, place_at}
 use Rattle.book_text.specs.Outcomes.{Outcome, outcome}
 use Rattle.book_text.specs.Outcomes.Outcome.{turned_away, accepted}
 use Rattle.table_format.specs.declared.fault.TableFault.{TableFault}
+use Rattle.book_text.specs.Texts.{book_fault_text}
+use Rattle.table_format.specs.Texts.{table_fault_text}
 use Rattle.table_format.specs.Reading.{meaning}
 use Rattle.table_format.specs.Taking.{fault, number, place}
 use Rattle.report.specs.Text.{longest_file, fault_line, long_line}
@@ -45,6 +47,13 @@ book_fault_line n w = book_name ⧺ ascii " " ⧺ decimal n ⧺ ascii " " ⧺ wh
 -- maker.tab 15 11 (the fault of a table always has a number)
 abbrev pub table_fault_line : TableFault → List ℕ
 table_fault_line e = fault_line table_name (unwrap_or (number e) 0) (place e)
+
+-- what is wrong with which file, in print
+abbrev pub file_fault_text : FileFault → List ℕ
+file_fault_text BookLong = book_name ⧺ ascii " long"
+file_fault_text (Book e) = book_name ⧺ ascii " " ⧺ book_fault_text e
+file_fault_text TableLong = table_name ⧺ ascii " long"
+file_fault_text (Table e) = table_name ⧺ ascii " " ⧺ table_fault_text e
 
 -- the line of the file at fault
 abbrev pub file_fault_line : FileFault → List ℕ

@@ -1,27 +1,27 @@
 // What the programs `bench` and `swaps` print of the two files that they read: a planner's book and a maker's table.
 #![tactic(auto)]
 
-ghost use Rattle.std.specs.Prelude.{◌≡◌, length, IfOk, string_bytes, ◌≢◌};
+ghost use Rattle.std.specs.Prelude.{◌≡◌, ◌≢◌, ◌≤◌, take, IfOk, Some, string_bytes, vec_len};
 ghost use Rattle.catalogue.specs.Layers.{joined};
 ghost use Rattle.rows.specs.Opening.{opened};
 ghost use Rattle.table_format.specs.Reading.{meaning};
 ghost use Rattle.maker_table.specs.Table.{written};
-ghost use Rattle.book_text.specs.Faults.{number_of, where_of};
-ghost use Rattle.book_text.specs.Faults.Where.{place_at};
 ghost use Rattle.table_format.specs.declared.fault.TableFault.TheVariants.{NoMemory};
 ghost use Rattle.output.specs.declared.FileFault.TheVariants.{Book as BookAt, Table as TableAt};
-ghost use Rattle.output.specs.Output.{place_rows, module_rows, book_fault_line, table_fault_line, file_fault_line, asked_of, output};
+ghost use Rattle.output.specs.Output.{place_rows, module_rows, file_fault_text, file_fault_line, asked_of, output};
 ghost use Rattle.output.specs.Taking.{Takes};
 
 use book::Book;
-use book_text::{BookFault, WordFault, read};
+use book_text::{BookFault, read};
 use catalogue::Catalogue;
 use comparison_text::{comparison_text, comparisons_text};
 use layers::Joined;
 use maker_table::Table;
-use report::{LONGEST_FILE, fault_text, long_text};
+use report::LONGEST_FILE;
 use rows::{ModuleRow, Place};
 use std::alloc::{AllocError, Global};
+use std::error::Error;
+use std::fmt;
 use swaps_text::swaps_text;
 use table_format::TableFault;
 
@@ -35,14 +35,8 @@ const PLACE_ROWS: usize = 4096;
 
 const MODULE_ROWS: usize = 64;
 
-const NO_MODULE: ModuleRow = ModuleRow {
-    first: 0,
-    places: 0,
-    start: 0,
-};
-
 // What can be wrong with the files. The first file at fault is told.
-#[derive(Clone, Copy)]
+#[derive(Clone, Copy, Debug, PartialEq, Eq)]
 pub enum FileFault {
     // the book is longer than a file may be
     BookLong,
@@ -68,8 +62,24 @@ impl From<TableFault> for FileFault {
     }
 }
 
+// The name of the file, and what is wrong with it.
+impl fmt::Display for FileFault {
+    ghost output = { λ e. Some (file_fault_text e) };
+
+    fn fmt<W: fmt::Write>(&self, f: &mut fmt::Formatter<W>) -> fmt::Result {
+        match self {
+            FileFault::BookLong => write!(f, "{BOOK_NAME} long"),
+            FileFault::Book(fault) => write!(f, "{BOOK_NAME} {fault}"),
+            FileFault::TableLong => write!(f, "{TABLE_NAME} long"),
+            FileFault::Table(fault) => write!(f, "{TABLE_NAME} {fault}"),
+        }
+    }
+}
+
+impl Error for FileFault {}
+
 // What is asked of the modules of the two files.
-#[derive(Clone, Copy)]
+#[derive(Clone, Copy, Debug, PartialEq, Eq)]
 pub enum Request {
     // every module compared with every other
     Comparisons,
@@ -79,7 +89,24 @@ pub enum Request {
     Swaps,
 }
 
-// The files, taken: the rows of the book that are in use, and the table.
+// The rows that a book is read into.
+#[derive(Drop)]
+struct Rows {
+    places: Vec<Place>,
+    modules: Vec<ModuleRow>,
+    ghost places_len: { vec_len places ≡ place_rows },
+    ghost modules_len: { vec_len modules ≡ module_rows },
+}
+
+impl Rows {
+    fn new(heap: Global) -> Result<Rows, AllocError> {
+        let places = vec![in heap; Place::default(); PLACE_ROWS]?;
+        let modules = vec![in heap; ModuleRow::default(); MODULE_ROWS]?;
+        Ok(Rows { places, modules })
+    }
+}
+
+// The files, taken: how many rows the book uses, and the table.
 #[derive(Drop)]
 struct Taken {
     places: usize,
@@ -92,17 +119,14 @@ fn take_files(
     heap: Global,
     book: &[u8],
     table: Vec<u8>,
-    places: &mut [Place],
-    modules: &mut [ModuleRow],
+    rows: &mut Rows,
 ) -> Result<Taken, FileFault>
-    requires places_len { length places.old ≡ place_rows }
-    requires modules_len { length modules.old ≡ module_rows }
-    ensures { Takes book.now table.items places.new modules.new result }
+    ensures { Takes book.now table.items rows.new.places.items rows.new.modules.items result }
 {
     if book.len() > LONGEST_FILE {
         return Err(FileFault::BookLong);
     }
-    let used = read(book, places, modules)?;
+    let used = read(book, &mut rows.places, &mut rows.modules)?;
     if table.len() > LONGEST_FILE {
         return Err(FileFault::TableLong);
     }
@@ -114,49 +138,14 @@ fn take_files(
     })
 }
 
-// Why a place of the book is refused.
-fn place_text(heap: Global, number: u8, part: usize, place: usize) -> Result<String, AllocError>
-    ensures { IfOk result (λ s. string_bytes s ≡ book_fault_line number (place_at part place)) }
-{
-    format!(in heap; "{BOOK_NAME} {number} {part} {place}\n")
-}
-
-// Why the book is refused.
-fn book_fault_text(heap: Global, why: BookFault) -> Result<String, AllocError>
-    ensures { IfOk result (λ s. string_bytes s ≡ book_fault_line (number_of why) (where_of why)) }
-{
-    match why {
-        BookFault::Word(WordFault::Alien(at)) => fault_text(heap, BOOK_NAME, 1, at),
-        BookFault::NotAllowed(at) => fault_text(heap, BOOK_NAME, 2, at),
-        BookFault::Word(WordFault::Port(at)) => fault_text(heap, BOOK_NAME, 3, at),
-        BookFault::Word(WordFault::Long(at)) => fault_text(heap, BOOK_NAME, 4, at),
-        BookFault::GivenBefore(at) => fault_text(heap, BOOK_NAME, 5, at),
-        BookFault::NoEquation(at) => fault_text(heap, BOOK_NAME, 6, at),
-        BookFault::TooMany(at) => fault_text(heap, BOOK_NAME, 7, at),
-        BookFault::Rows(fault) => place_text(heap, fault.number(), fault.part(), fault.place()),
-    }
-}
-
-// Why the table is refused; want of memory is no fault of it.
-fn table_fault_text(heap: Global, why: TableFault) -> Result<String, AllocError>
-    ensures { IfOk result (λ s. (string_bytes s ≡ table_fault_line why) × (why ≢ NoMemory)) }
-{
-    match why.number() {
-        Some(number) => fault_text(heap, TABLE_NAME, number, why.place()),
-        None => Err(AllocError),
-    }
-}
-
-// Why a file is refused.
-fn file_fault_text(heap: Global, why: FileFault) -> Result<String, AllocError>
+// Why a file is refused; want of memory is no fault of it.
+fn refused_text(heap: Global, why: FileFault) -> Result<String, AllocError>
     ensures { IfOk result (λ s. (string_bytes s ≡ file_fault_line why) × (why ≢ TableAt NoMemory)) }
 {
-    match why {
-        FileFault::BookLong => long_text(heap, BOOK_NAME),
-        FileFault::Book(fault) => book_fault_text(heap, fault),
-        FileFault::TableLong => long_text(heap, TABLE_NAME),
-        FileFault::Table(fault) => table_fault_text(heap, fault),
+    if why == FileFault::Table(TableFault::NoMemory) {
+        return Err(AllocError);
     }
+    format!(in heap; "{why}\n")
 }
 
 // What is asked of a catalogue.
@@ -175,47 +164,19 @@ fn answer_text<C: Catalogue>(
 }
 
 // What is asked of the modules of the book in the rows, and of those of the table behind them.
-fn taken_text<'a>(
+fn taken_text(
     heap: Global,
     request: Request,
-    places: &'a [Place],
-    modules: &'a [ModuleRow],
-    table: Table,
+    rows: &Rows,
+    taken: Taken,
 ) -> Result<String, AllocError>
-    ensures { IfOk result (λ s. string_bytes s ≡ asked_of request (joined (opened places.now modules.now) (meaning (written table)))) }
+    requires places { taken.places ≤ vec_len rows.now.places }
+    requires modules { taken.modules ≤ vec_len rows.now.modules }
+    ensures { IfOk result (λ s. string_bytes s ≡ asked_of request (joined (opened (take taken.places rows.now.places.items) (take taken.modules rows.now.modules.items)) (meaning (written taken.table)))) }
 {
-    let book = Book::over(places, modules);
-    let both = Joined::new(book, table);
+    let book = Book::over(&rows.places[..taken.places], &rows.modules[..taken.modules]);
+    let both = Joined::new(book, taken.table);
     answer_text(heap, &both, request)
-}
-
-// What is printed of the two files, with rows lent to read the book into.
-fn files_text(
-    heap: Global,
-    request: Request,
-    book: &[u8],
-    table: Vec<u8>,
-    places: &mut [Place],
-    modules: &mut [ModuleRow],
-) -> Result<String, AllocError>
-    requires places_len { length places.old ≡ place_rows }
-    requires modules_len { length modules.old ≡ module_rows }
-    ensures { IfOk result (λ s. string_bytes s ≡ output request book.now table.items) }
-{
-    match take_files(heap, book, table, places, modules) {
-        Ok(taken) => {
-            let count = taken.places;
-            let parts = taken.modules;
-            taken_text(
-                heap,
-                request,
-                &places[0..count],
-                &modules[0..parts],
-                taken.table,
-            )
-        }
-        Err(fault) => file_fault_text(heap, fault),
-    }
 }
 
 // What is printed of the two files: what is asked of their modules, those of the book before those of the table, or the line of
@@ -228,7 +189,9 @@ pub fn output_text(
 ) -> Result<String, AllocError>
     ensures { IfOk result (λ s. string_bytes s ≡ output request book.items table.items) }
 {
-    let mut places = vec![in heap; Place::Nil; PLACE_ROWS]?;
-    let mut modules = vec![in heap; NO_MODULE; MODULE_ROWS]?;
-    files_text(heap, request, &book, table, &mut places, &mut modules)
+    let mut rows = Rows::new(heap)?;
+    match take_files(heap, &book, table, &mut rows) {
+        Ok(taken) => taken_text(heap, request, &rows, taken),
+        Err(fault) => refused_text(heap, fault),
+    }
 }
