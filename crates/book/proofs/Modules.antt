@@ -8,9 +8,8 @@ use Rattle.rows.specs.declared.row.ModuleRow.{ModuleRow}
 use Rattle.rows.specs.declared.fault.RowsFault.{RowsFault}
 use Rattle.rows.specs.Opening.{module_fault, fault_from, fault, verdict_of, row_of, places_in}
 use Rattle.trial.specs.declared.summary.Summary.{Summary}
-use Rattle.book.specs.declared.table.Summaries.{Summaries}
 use Rattle.trial.specs.Summaries.{unknown, summary, Summarizes}
-use Rattle.book.specs.Keeping.{Site, summary_at, no_summaries, kept, kept_at}
+use Rattle.book.specs.Keeping.{Site, summary_at, kept, kept_at}
 
 module _ (rows : List Place) (ms : List ModuleRow) where
   -- nothing is wrong with the modules before number m
@@ -34,21 +33,21 @@ module _ (rows : List Place) (ms : List ModuleRow) where
   fault_none m l so = sym (so ∙ ap (λ x. fault_from rows m x) (drop_all m ms l))
 
   -- the table keeps the summaries of module m
-  abbrev pub Keeps : List Summaries → ℕ → Type 0
+  abbrev pub Keeps : List (List Summary) → ℕ → Type 0
   Keeps table m = (i : ℕ) → i < length (places_in rows ms m) → kept table m i ≡ summary (places_in rows ms m) (length (places_in rows ms m)) i
 
-  pub keeps_more : (m : ℕ) (table : List Summaries) (ss : List Summary) → m < length table → ((k : ℕ) → k < m → Keeps table k) → Summarizes (places_in rows ms m) (length (places_in rows ms m)) ss → (k : ℕ) → k < m + 1 → Keeps (set table m record { of = ss }) k
+  pub keeps_more : (m : ℕ) (table : List (List Summary)) (ss : List Summary) → m < length table → ((k : ℕ) → k < m → Keeps table k) → Summarizes (places_in rows ms m) (length (places_in rows ms m)) ss → (k : ℕ) → k < m + 1 → Keeps (set table m ss) k
   keeps_more m table ss room old new k l i h = go (cases_eq k m)
     where
-      go : (k ≡ m) ⊎ (k ≡ m → ⊥) → kept (set table m record { of = ss }) k i ≡ summary (places_in rows ms k) (length (places_in rows ms k)) i
+      go : (k ≡ m) ⊎ (k ≡ m → ⊥) → kept (set table m ss) k i ≡ summary (places_in rows ms k) (length (places_in rows ms k)) i
       go (inl e) =
-          ap (λ (x : ℕ). get_or (get_or (set table m record { of = ss }) x no_summaries).of i unknown) e
-          ∙ ap (λ (x : Summaries). get_or x.of i unknown) (get_or-set_same table m record { of = ss } no_summaries room)
+          ap (λ (x : ℕ). get_or (get_or (set table m ss) x []) i unknown) e
+          ∙ ap (λ (x : List Summary). get_or x i unknown) (get_or-set_same table m ss [] room)
           ∙ subst (λ x. Summarizes (places_in rows ms x) (length (places_in rows ms x)) ss) (sym e) new i h
-      go (inr ne) = ap (λ (x : Summaries). get_or x.of i unknown) (get_or-set_other table m k record { of = ss } no_summaries ne) ∙ old k (omega (arith, ne)) i h
+      go (inr ne) = ap (λ (x : List Summary). get_or x i unknown) (get_or-set_other table m k ss [] ne) ∙ old k (omega (arith, ne)) i h
 
   -- what the ghost fields say
-  pub site_kept : (table : List Summaries) → ((k : ℕ) → k < length ms → Keeps table k) → (s : Site rows ms None) → kept_at table s ≡ summary_at s
+  pub site_kept : (table : List (List Summary)) → ((k : ℕ) → k < length ms → Keeps table k) → (s : Site rows ms None) → kept_at table s ≡ summary_at s
   site_kept table h s = h s.part s.listed s.place s.of_module
 
   pub no_site : (e : RowsFault) → Site rows ms (Some e) → ⊥

@@ -3,9 +3,8 @@ use Rattle.std.specs.Prelude.{◌≡◌, ℕ, ◌<◌, List, [], length, get_or,
 use Rattle.rows.specs.declared.row.Place.{Place}
 use Rattle.rows.specs.declared.row.ModuleRow.{ModuleRow}
 use Rattle.rows.specs.declared.fault.RowsFault.{RowsFault}
-use Rattle.rows.specs.Opening.{places_in}
+use Rattle.rows.specs.Opening.{WellFormed, places_in}
 use Rattle.trial.specs.declared.summary.Summary.{Summary}
-use Rattle.book.specs.declared.table.Summaries.{Summaries}
 use Rattle.trial.specs.Summaries.{unknown, summary}
 
 -- a place of rows whose verdict is that nothing is wrong
@@ -19,12 +18,15 @@ pub record Site (rows : List Place) (ms : List ModuleRow) (verdict : Option Rows
 abbrev pub summary_at : {rows : List Place} {ms : List ModuleRow} {verdict : Option RowsFault} → Site rows ms verdict → Summary
 summary_at {rows} {ms} s = summary (places_in rows ms s.part) (length (places_in rows ms s.part)) s.place
 
-abbrev pub no_summaries : Summaries
-no_summaries = record { of = [] }
-
 -- what a table keeps of it: row by module, then by place
-abbrev pub kept : List Summaries → ℕ → ℕ → Summary
-kept table m i = slice_index_or (get_or table m no_summaries).of i unknown
+abbrev pub kept : List (List Summary) → ℕ → ℕ → Summary
+kept table m i = slice_index_or (get_or table m []) i unknown
 
-abbrev pub kept_at : {rows : List Place} {ms : List ModuleRow} {verdict : Option RowsFault} → List Summaries → Site rows ms verdict → Summary
+abbrev pub kept_at : {rows : List Place} {ms : List ModuleRow} {verdict : Option RowsFault} → List (List Summary) → Site rows ms verdict → Summary
 kept_at table s = kept table s.part s.place
+
+-- places that passed every trial, with their summaries
+pub record Known (ps : List Place) (ss : List Summary) : Type 0 where
+  pub well_formed : WellFormed ps
+  pub depths : (i : ℕ) → i < length ps → (get_or ss i unknown).depth ≡ (summary ps (length ps) i).depth
+  pub counts : (i : ℕ) → i < length ps → (get_or ss i unknown).moves ≡ (summary ps (length ps) i).moves

@@ -6,9 +6,9 @@ ghost use Rattle.rows.specs.Walks.{TellsOfWalks};
 ghost use Rattle.rows.specs.Cases.{Worked};
 
 use super::Book;
-use super::table::Summaries;
+use super::table::Table;
 use rows::{ModuleRow, Place, RowsFault};
-use trial::{UNKNOWN, try_module};
+use trial::{Summary, try_module};
 
 impl<'a> Book<'a> {
     // Opens rows as a book, whatever they hold. Where something is wrong with them, the book has no modules.
@@ -21,10 +21,12 @@ impl<'a> Book<'a> {
         ensures time { TimeDeterministic }
         ensures worked { Worked }
     {
-        let mut table = [Summaries { of: [UNKNOWN; 256] }; 64];
-        for part in 0..modules.len() {
-            match try_module(places, part, modules[part]) {
-                Ok(summaries) => table[part] = Summaries { of: summaries },
+        let mut table = Table {
+            rows: [[Summary::default(); 256]; 64],
+        };
+        for (part, row) in modules.iter().enumerate() {
+            match try_module(places, part, *row) {
+                Ok(summaries) => table.rows[part] = summaries,
                 Err(found) => {
                     return Book {
                         places,
@@ -56,8 +58,8 @@ impl<'a> Book<'a> {
 pub fn try_rows(places: &[Place], modules: &[ModuleRow]) -> Result<(), RowsFault>
     ensures { result ≡ verdict_of (fault_of_rows places.now modules.now) }
 {
-    for part in 0..modules.len() {
-        try_module(places, part, modules[part])?;
+    for (part, row) in modules.iter().enumerate() {
+        try_module(places, part, *row)?;
     }
     Ok(())
 }

@@ -21,7 +21,7 @@ loop-part-preserved c =
     let rows = c.args.places.now in
     let ms = c.args.modules.now in
     let n = c.loop-part.invariant.0 in
-    (length-set c.loop-part.table c.loop-part.part record { of = c.in-Ok.summaries } ∙ n, fault_later rows ms c.loop-part.part c.loop-part-test.true c.loop-part.invariant.1 c.in-Ok.ensures.0, keeps_more rows ms c.loop-part.part c.loop-part.table c.in-Ok.summaries (omega (arith, few c)) c.loop-part.invariant.2 c.in-Ok.ensures.1)
+    (length-set c.loop-part.table.rows c.loop-part.part c.in-Ok.summaries ∙ n, fault_later rows ms c.loop-part.part c.loop-part-test.true c.loop-part.invariant.1 c.in-Ok.ensures.0, keeps_more rows ms c.loop-part.part c.loop-part.table.rows c.in-Ok.summaries (omega (arith, few c)) c.loop-part.invariant.2 c.in-Ok.ensures.1)
 
 pub invariant_of-result : goal.invariant_of-result
 invariant_of-result c =
@@ -34,7 +34,7 @@ pub invariant_of-result-2 : goal.invariant_of-result-2
 invariant_of-result-2 c =
     let rows = c.args.places.now in
     let ms = c.args.modules.now in
-    let h = site_kept rows ms c.loop-part.table (λ k l. c.loop-part.invariant.2 k (omega (arith, c.loop-part-test.false))) in
+    let h = site_kept rows ms c.loop-part.table.rows (λ k l. c.loop-part.invariant.2 k (omega (arith, c.loop-part-test.false))) in
     record { tried = fault_none rows ms c.loop-part.part c.loop-part-test.false c.loop-part.invariant.1; depths = λ s. ap (λ (x : Summary). x.depth) (h s); counts = λ s. ap (λ (x : Summary). x.moves) (h s) }
 
 pub returns-in-Err : goal.returns-in-Err
