@@ -107,12 +107,8 @@ module _ (rows : List Place) (ms : List ModuleRow) where
     accepts = each_accepted rows ms q m l
 
     -- .. and what its table keeps of the module
-    kept_of : (table : List (List Summary)) (v : Option RowsFault) → v ≡ fault rows ms → ((s : Site rows ms v) → (kept_at table s).depth ≡ (summary_at s).depth) → ((s : Site rows ms v) → (kept_at table s).moves ≡ (summary_at s).moves) → Known (places_in rows ms m) (get_or table m [])
-    kept_of table v w ds cs = record {
-      well_formed = accepts.well_formed;
-      depths = λ i h. ds (site i h);
-      counts = λ i h. cs (site i h);
-    }
+    kept_of : (table : List (List Summary)) (v : Option RowsFault) → v ≡ fault rows ms → ((s : Site rows ms v) → kept_at table s ≡ summary_at s) → Known (places_in rows ms m) (get_or table m [])
+    kept_of table v w ks = record { well_formed = accepts.well_formed; summarized = λ i h. ks (site i h) }
       where
         site : (i : ℕ) → i < length (places_in rows ms m) → Site rows ms v
         site i h = record { part = m; place = i; taken = w ∙ q; listed = l; of_module = h }
@@ -154,4 +150,4 @@ module _ (b : Book) (m : ℕ) (r : ModuleRow) (ok : false ≡ is_some b.verdict)
   its_few = omega (arith, length-take {A = Place}, its_row.few_places)
 
   pub its_known : Known (take (r.first + r.places - r.first) (drop r.first b.places.now)) (get_or b.table.rows m [])
-  its_known = subst (λ x. Known x (get_or b.table.rows m [])) (sym its_part) (kept_of b.places.now b.modules.now m none_wrong row.0 b.table.rows b.verdict b.tried b.depths b.counts)
+  its_known = subst (λ x. Known x (get_or b.table.rows m [])) (sym its_part) (kept_of b.places.now b.modules.now m none_wrong row.0 b.table.rows b.verdict b.tried b.kept)

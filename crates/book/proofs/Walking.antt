@@ -157,10 +157,10 @@ module _ (ps : List Place) (ok : WellFormed ps) where
 
 module _ (ps : List Place) (ss : List Summary) (known : Known ps ss) where
   pub count_is : (i : ℕ) → i < length ps → (get_or ss i unknown).moves ≡ length (moves_of ps i)
-  count_is i l = let e : (get_or ss i unknown).moves ≡ min (suc most_moves) (length (moves_of ps i)) = known.counts i l in omega (arith, known.well_formed.few i l)
+  count_is i l = let e : (get_or ss i unknown).moves ≡ min (suc most_moves) (length (moves_of ps i)) = ap (λ (x : Summary). x.moves) (known.summarized i l) in omega (arith, known.well_formed.few i l)
 
   pub depth_is : (i : ℕ) → i < length ps → (get_or ss i unknown).depth ≡ depth_of ps i
-  depth_is i l = let e : (get_or ss i unknown).depth ≡ min ages (depth_of ps i) = known.depths i l in omega (arith, known.well_formed.shallow i l)
+  depth_is i l = let e : (get_or ss i unknown).depth ≡ min ages (depth_of ps i) = ap (λ (x : Summary). x.depth) (known.summarized i l) in omega (arith, known.well_formed.shallow i l)
 
   module _ (i : ℕ) (l : i < length ps) where
     pub urgent_quiet : (s : ActionSet) (k : ℕ) → (get_or ss i unknown).moves ≡ 0 → ((a : ℤ) → has s a ≡ false) → s ≡ urgent_of ps i k

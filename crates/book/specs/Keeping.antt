@@ -5,7 +5,7 @@ use Rattle.rows.specs.declared.row.ModuleRow.{ModuleRow}
 use Rattle.rows.specs.declared.fault.RowsFault.{RowsFault}
 use Rattle.rows.specs.Opening.{WellFormed, places_in}
 use Rattle.trial.specs.declared.summary.Summary.{Summary}
-use Rattle.trial.specs.Summaries.{unknown, summary}
+use Rattle.trial.specs.Summaries.{unknown, summary, Summarizes}
 
 -- a place of rows whose verdict is that nothing is wrong
 pub record Site (rows : List Place) (ms : List ModuleRow) (verdict : Option RowsFault) : Type 0 where
@@ -28,5 +28,4 @@ kept_at table s = kept table s.part s.place
 -- places that passed every trial, with their summaries
 pub record Known (ps : List Place) (ss : List Summary) : Type 0 where
   pub well_formed : WellFormed ps
-  pub depths : (i : ℕ) → i < length ps → (get_or ss i unknown).depth ≡ (summary ps (length ps) i).depth
-  pub counts : (i : ℕ) → i < length ps → (get_or ss i unknown).moves ≡ (summary ps (length ps) i).moves
+  pub summarized : Summarizes ps (length ps) ss

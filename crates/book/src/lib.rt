@@ -24,6 +24,5 @@ pub struct Book<'a> {
     table: Table,
     verdict: Option<RowsFault>,
     ghost tried: { verdict ≡ fault places.now modules.now },
-    ghost depths: { (s : Site places.now modules.now verdict) → (kept_at table.rows s).depth ≡ (summary_at s).depth },
-    ghost counts: { (s : Site places.now modules.now verdict) → (kept_at table.rows s).moves ≡ (summary_at s).moves },
+    ghost kept: { (s : Site places.now modules.now verdict) → kept_at table.rows s ≡ summary_at s },
 }

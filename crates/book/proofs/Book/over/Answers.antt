@@ -28,14 +28,13 @@ invariant_of-result c =
     let rows = c.args.places.now in
     let ms = c.args.modules.now in
     let e = c.in-Err.found in
-    record { tried = fault_here rows ms c.loop-part.part e c.loop-part-test.true c.loop-part.invariant.1 c.in-Err.ensures; depths = λ s. absurd (no_site rows ms e s); counts = λ s. absurd (no_site rows ms e s) }
+    record { tried = fault_here rows ms c.loop-part.part e c.loop-part-test.true c.loop-part.invariant.1 c.in-Err.ensures; kept = λ s. absurd (no_site rows ms e s) }
 
 pub invariant_of-result-2 : goal.invariant_of-result-2
 invariant_of-result-2 c =
     let rows = c.args.places.now in
     let ms = c.args.modules.now in
-    let h = site_kept rows ms c.loop-part.table.rows (λ k l. c.loop-part.invariant.2 k (omega (arith, c.loop-part-test.false))) in
-    record { tried = fault_none rows ms c.loop-part.part c.loop-part-test.false c.loop-part.invariant.1; depths = λ s. ap (λ (x : Summary). x.depth) (h s); counts = λ s. ap (λ (x : Summary). x.moves) (h s) }
+    record { tried = fault_none rows ms c.loop-part.part c.loop-part-test.false c.loop-part.invariant.1; kept = site_kept rows ms c.loop-part.table.rows (λ k l. c.loop-part.invariant.2 k (omega (arith, c.loop-part-test.false))) }
 
 pub returns-in-Err-clause-time : goal.returns-in-Err-clause-time
 returns-in-Err-clause-time c = time_deterministic
