@@ -12,14 +12,13 @@ use Rattle.catalogue.specs.Catalogue.{Catalogue, Module, State, nowhere, absent,
 use Rattle.rows.specs.declared.row.Place.{Place}
 use Rattle.rows.specs.declared.row.ModuleRow.{ModuleRow}
 use Rattle.rows.specs.declared.fault.RowsFault.{RowsFault}
-use Rattle.trial.specs.declared.summary.Summary.{Summary}
 use Rattle.rows.specs.Places.{code, depth_of, urgent_of, older, state_of}
 use Rattle.rows.specs.Opening.{book_places, module_at, fault, opened, row_of, places_in}
 use Rattle.rows.proofs.Accepted.{Accepted, each_accepted, places_length}
 use Rattle.rows.proofs.Rules.{size, at_in, at_out, module_is, opened_is, nothing}
 use Rattle.book.specs.declared.equations.Equations.{Equations}
 use Rattle.book.specs.declared.Book.{Book}
-use Rattle.book.specs.Keeping.{Site, summary_at, kept_at, Known}
+use Rattle.book.specs.Keeping.{Known}
 use Rattle.book.specs.Asking.{Found, state_with}
 use Rattle.book.proofs.Walking.{nth_past}
 
@@ -106,13 +105,6 @@ module _ (rows : List Place) (ms : List ModuleRow) where
     accepts : Accepted rows m (row_of ms m)
     accepts = each_accepted rows ms q m l
 
-    -- .. and what its table keeps of the module
-    kept_of : (table : List (List Summary)) (v : Option RowsFault) → v ≡ fault rows ms → ((s : Site rows ms v) → kept_at table s ≡ summary_at s) → Known (places_in rows ms m) (get_or table m [])
-    kept_of table v w ks = record { well_formed = accepts.well_formed; summarized = λ i h. ks (site i h) }
-      where
-        site : (i : ℕ) → i < length (places_in rows ms m) → Site rows ms v
-        site i h = record { part = m; place = i; taken = w ∙ q; listed = l; of_module = h }
-
   module _ (m : ℕ) (e : Equations) (h : Found rows ms m (Some e)) where
     taken : Accepted rows m (row_of ms m)
     taken = accepts m h.0 h.1
@@ -150,4 +142,7 @@ module _ (b : Book) (m : ℕ) (r : ModuleRow) (ok : false ≡ is_some b.verdict)
   its_few = omega (arith, length-take {A = Place}, its_row.few_places)
 
   pub its_known : Known (take (r.first + r.places - r.first) (drop r.first b.places.now)) (get_or b.table.rows m [])
-  its_known = subst (λ x. Known x (get_or b.table.rows m [])) (sym its_part) (kept_of b.places.now b.modules.now m none_wrong row.0 b.table.rows b.verdict b.tried b.kept)
+  its_known = subst (λ x. Known x (get_or b.table.rows m [])) (sym its_part) (record {
+    well_formed = (accepts b.places.now b.modules.now m none_wrong row.0).well_formed;
+    summarized = b.kept (b.tried ∙ none_wrong) m row.0;
+  })

@@ -3,7 +3,7 @@
 
 ghost use Rattle.std.specs.Prelude.{◌≡◌};
 ghost use Rattle.rows.specs.Opening.{fault};
-ghost use Rattle.book.specs.Keeping.{Site, kept_at, summary_at};
+ghost use Rattle.book.specs.Keeping.{KeepsAll};
 
 use rows::{ModuleRow, Place, RowsFault};
 use table::Table;
@@ -24,5 +24,5 @@ pub struct Book<'a> {
     table: Table,
     verdict: Option<RowsFault>,
     ghost tried: { verdict ≡ fault places.now modules.now },
-    ghost kept: { (s : Site places.now modules.now verdict) → kept_at table.rows s ≡ summary_at s },
+    ghost kept: { KeepsAll places.now modules.now table.rows verdict },
 }

@@ -1,10 +1,9 @@
-use Rattle.std.proofs.Common.{◌<◌, ap, ◌∙◌, arith, length-set, rules}
+use Rattle.std.proofs.Common.{◌<◌, ◌∙◌, arith, length-set, rules}
 use Rattle.rows.specs.Opening.{row_of}
 use Rattle.rows.proofs.Accepted.{accepted}
 use Rattle.rows.proofs.Rules.{books_by_the_rules, waits_delay_nothing, time_deterministic}
 use Rattle.rows.proofs.Worked.{worked as worked_out}
-use Rattle.trial.specs.declared.summary.Summary.{Summary}
-use Rattle.book.proofs.Modules.{fault_here, fault_later, fault_none, keeps_more, site_kept, no_site}
+use Rattle.book.proofs.Modules.{fault_here, fault_later, fault_none, keeps_more}
 use Rattle.book.proofs.Book.over.Goals as goal
 
 few : (c : goal.In-Ok) → c.loop-part.part < 64
@@ -28,13 +27,13 @@ invariant_of-result c =
     let rows = c.args.places.now in
     let ms = c.args.modules.now in
     let e = c.in-Err.found in
-    record { tried = fault_here rows ms c.loop-part.part e c.loop-part-test.true c.loop-part.invariant.1 c.in-Err.ensures; kept = λ s. absurd (no_site rows ms e s) }
+    record { tried = fault_here rows ms c.loop-part.part e c.loop-part-test.true c.loop-part.invariant.1 c.in-Err.ensures; kept = λ q. absurd (cc q) }
 
 pub invariant_of-result-2 : goal.invariant_of-result-2
 invariant_of-result-2 c =
     let rows = c.args.places.now in
     let ms = c.args.modules.now in
-    record { tried = fault_none rows ms c.loop-part.part c.loop-part-test.false c.loop-part.invariant.1; kept = site_kept rows ms c.loop-part.table.rows (λ k l. c.loop-part.invariant.2 k (omega (arith, c.loop-part-test.false))) }
+    record { tried = fault_none rows ms c.loop-part.part c.loop-part-test.false c.loop-part.invariant.1; kept = λ q k l. c.loop-part.invariant.2 k (omega (arith, c.loop-part-test.false)) }
 
 pub returns-in-Err-clause-time : goal.returns-in-Err-clause-time
 returns-in-Err-clause-time c = time_deterministic

@@ -1,5 +1,6 @@
 use Rattle.std.proofs.Common.{◌≡◌, ℕ, ◌<◌, length}
-use Rattle.book.proofs.Modules.{SoFar, Keeps}
+use Rattle.book.proofs.Modules.{SoFar}
+use Rattle.book.specs.Keeping.{Keeps}
 use Rattle.book.proofs.Book.over.Given as goal
 
 abbrev pub invariant-loop-part : goal.invariant-loop-part
