@@ -1,5 +1,6 @@
 // Opening rows.
-ghost use Rattle.std.specs.Prelude.{◌≡◌, None};
+ghost use Rattle.std.specs.Prelude.{◌≡◌, None, IfOk};
+ghost use Rattle.std.specs.Result.{result_err};
 ghost use Rattle.rows.specs.Opening.{fault as fault_of_rows, verdict_of};
 ghost use Rattle.rows.specs.Rules.{BooksByTheRules, WaitsDelayNothing, TimeDeterministic};
 ghost use Rattle.rows.specs.Walks.{TellsOfWalks};
@@ -42,6 +43,18 @@ impl<'a> Book<'a> {
             modules,
             table,
             verdict: None,
+        }
+    }
+
+    // Opens rows as a book, or tells what is wrong with them.
+    pub fn open(places: &'a [Place], modules: &'a [ModuleRow]) -> Result<Book<'a>, RowsFault>
+        ensures opened { IfOk result (λ b. (b.places.now ≡ places.now) × (b.modules.now ≡ modules.now)) }
+        ensures judged { result_err result ≡ fault_of_rows places.now modules.now }
+    {
+        let book = Book::over(places, modules);
+        match book.fault() {
+            Some(fault) => Err(fault),
+            None => Ok(book),
         }
     }
 
