@@ -1,8 +1,9 @@
 -- A question about a module of a book finds what its places have. Assumes nothing.
-use Rattle.std.proofs.Common.{◌≡◌, ℕ, zero, suc, ◌+◌, ◌-◌, ◌*◌, ◌/◌, ◌%◌, ◌<◌, ◌≤◌, Bool, true, false, ltb, List, [], ◌∷◌, length, get_or, take, drop, Some, None, Option, sym, refl, ap, ◌∙◌, subst, arith}
+use Rattle.std.proofs.Common.{◌≡◌, ℕ, zero, suc, ◌+◌, ◌-◌, ◌*◌, ◌/◌, ◌%◌, ◌<◌, ◌≤◌, Bool, true, false, ltb, is_some, List, [], ◌∷◌, length, get_or, take, drop, length-take, Some, None, Option, sym, refl, ap, ◌∙◌, subst, arith}
 use lib.ListN.{length-map}
 use Rattle.std.proofs.lemmas.List.{get_or_past}
-use Rattle.std.proofs.lemmas.Bool.{lt-ltb, le-ltb}
+use Rattle.std.proofs.lemmas.Bool.{lt-ltb, le-ltb, ltb-true, ltb-false}
+use Rattle.std.specs.Bool.{then_some}
 use Rattle.std.specs.Option.{option_map}
 use Rattle.action.specs.Lists.{nth}
 use Rattle.action.specs.Action.{internal}
@@ -11,43 +12,65 @@ use Rattle.catalogue.specs.Catalogue.{Catalogue, Module, State, nowhere, absent,
 use Rattle.rows.specs.declared.row.Place.{Place}
 use Rattle.rows.specs.declared.row.ModuleRow.{ModuleRow}
 use Rattle.rows.specs.declared.fault.RowsFault.{RowsFault}
-use Rattle.rows.specs.Places.{code, depth_of, older, state_of}
-use Rattle.rows.specs.Opening.{module_at, fault, opened, row_of, places_in}
+use Rattle.rows.specs.Places.{code, depth_of, urgent_of, older, state_of}
+use Rattle.rows.specs.Opening.{book_places, module_at, fault, opened, row_of, places_in}
 use Rattle.rows.proofs.Accepted.{Accepted, each_accepted, places_length}
 use Rattle.rows.proofs.Rules.{size, at_in, at_out, module_is, opened_is, nothing}
-use Rattle.book.specs.declared.table.Summaries.{Summaries}
-use Rattle.book.specs.declared.questions.Equations.{Equations}
-use Rattle.book.specs.Keeping.{Site, summary_at, kept_at, no_summaries}
-use Rattle.book.specs.Asking.{Found, Known, KnownIn, state_with}
+use Rattle.book.specs.declared.equations.Equations.{Equations}
+use Rattle.book.specs.declared.Book.{Book}
+use Rattle.book.specs.Keeping.{Known}
+use Rattle.book.specs.Asking.{Found, state_with}
 use Rattle.book.proofs.Walking.{nth_past}
 
 -- ── a code of a module ──
 
 module _ (ps : List Place) (c : ℕ) where
-  pub in_range : c / 16 < length ps → state_with ps c ≡ state_of ps (c / 16) (c % 16)
-  in_range l = at_in ps 0 c (omega arith)
+  -- the place and the age that are told of it, where there is such a place
+  abbrev pub here : ℕ × ℕ
+  here = (c / 16, c % 16)
 
-  pub out_of_range : length ps ≤ c / 16 → state_with ps c ≡ nowhere
-  out_of_range l = at_out ps 0 c (omega arith)
+  abbrev pub told : Option (ℕ × ℕ)
+  told = then_some (ltb (c / 16) (length ps)) here
 
-  module _ (l : c / 16 < length ps) where
-    pub no_tick : has (state_with ps c).urgent internal ≡ true → None ≡ (state_with ps c).tick
-    no_tick q =
-        let u = ap (λ (x : State). has x.urgent internal) (sym (in_range l)) ∙ q in
-        sym (ap (λ (x : State). x.tick) (in_range l) ∙ ap {B = Option ℕ} (λ (b : Bool). elim b [ true ↦ None | false ↦ Some (code (c / 16) (older (depth_of ps (c / 16)) (c % 16))) ]) u)
+  pub nowhere_told : None ≡ told → state_with ps c ≡ nowhere
+  nowhere_told e = go (ltb (c / 16) (length ps)) refl e
+    where
+      go : (b : Bool) → ltb (c / 16) (length ps) ≡ b → None ≡ then_some b here → state_with ps c ≡ nowhere
+      go true q h = cc
+      go false q h = at_out ps 0 c (omega (arith, ltb-false (c / 16) (length ps) q))
 
-    ticks_to : has (state_with ps c).urgent internal ≡ false → (b : Bool) → ltb (c % 16) (depth_of ps (c / 16)) ≡ b → (state_with ps c).tick ≡ Some (code (c / 16) (elim b [ true ↦ suc (c % 16) | false ↦ c % 16 ]))
-    ticks_to q b e =
-        let u = ap (λ (x : State). has x.urgent internal) (sym (in_range l)) ∙ q in
-        ap (λ (x : State). x.tick) (in_range l)
-        ∙ ap {B = Option ℕ} (λ (x : Bool). elim x [ true ↦ None | false ↦ Some (code (c / 16) (older (depth_of ps (c / 16)) (c % 16))) ]) u
-        ∙ ap {B = Option ℕ} (λ (x : Bool). Some (code (c / 16) (elim x [ true ↦ suc (c % 16) | false ↦ c % 16 ]))) e
+  module _ (s : ℕ × ℕ) (e : Some s ≡ told) where
+    spot : (c / 16 < length ps) × (s ≡ here)
+    spot = go (ltb (c / 16) (length ps)) refl e
+      where
+        go : (b : Bool) → ltb (c / 16) (length ps) ≡ b → Some s ≡ then_some b here → (c / 16 < length ps) × (s ≡ here)
+        go true q h = (ltb-true (c / 16) (length ps) q, cc)
+        go false q h = cc
 
-    pub tick_on : has (state_with ps c).urgent internal ≡ false → c % 16 < depth_of ps (c / 16) → Some (c + 1) ≡ (state_with ps c).tick
-    tick_on q h = let z : c + 1 ≡ code (c / 16) (suc (c % 16)) = omega arith in ap (λ n. Some n) z ∙ sym (ticks_to q true (lt-ltb (c % 16) (depth_of ps (c / 16)) h))
+    pub is_place : s.0 < length ps
+    is_place = subst (λ (x : ℕ × ℕ). x.0 < length ps) (sym spot.1) spot.0
 
-    pub tick_stays : has (state_with ps c).urgent internal ≡ false → depth_of ps (c / 16) ≤ c % 16 → Some c ≡ (state_with ps c).tick
-    tick_stays q h = let z : c ≡ code (c / 16) (c % 16) = omega arith in ap (λ n. Some n) z ∙ sym (ticks_to q false (le-ltb (c % 16) (depth_of ps (c / 16)) h))
+    pub state_told : state_with ps c ≡ state_of ps s.0 s.1
+    state_told = at_in ps 0 c (omega (arith, spot.0)) ∙ ap (λ (x : ℕ × ℕ). state_of ps x.0 x.1) (sym spot.1)
+
+    coded : c ≡ code s.0 s.1
+    coded = subst (λ (x : ℕ × ℕ). c ≡ code x.0 x.1) (sym spot.1) (omega arith)
+
+    -- its tick, by whether the internal event is urgent and whether the age is below the depth
+    tick_is : (u b : Bool) → has (urgent_of ps s.0 s.1) internal ≡ u → ltb s.1 (depth_of ps s.0) ≡ b → (state_with ps c).tick ≡ elim u [ true ↦ None | false ↦ Some (code s.0 (elim b [ true ↦ suc s.1 | false ↦ s.1 ])) ]
+    tick_is u b q r =
+        ap (λ (x : State). x.tick) state_told
+        ∙ ap {B = Option ℕ} (λ (x : Bool). elim x [ true ↦ None | false ↦ Some (code s.0 (older (depth_of ps s.0) s.1)) ]) q
+        ∙ ap {B = Option ℕ} (λ (x : Bool). elim u [ true ↦ None | false ↦ Some (code s.0 (elim x [ true ↦ suc s.1 | false ↦ s.1 ])) ]) r
+
+    pub no_tick : has (urgent_of ps s.0 s.1) internal ≡ true → None ≡ (state_with ps c).tick
+    no_tick q = sym (tick_is true (ltb s.1 (depth_of ps s.0)) q refl)
+
+    pub tick_on : has (urgent_of ps s.0 s.1) internal ≡ false → s.1 < depth_of ps s.0 → Some (c + 1) ≡ (state_with ps c).tick
+    tick_on q h = let z : c + 1 ≡ code s.0 (suc s.1) = omega (arith, coded) in ap (λ n. Some n) z ∙ sym (tick_is false true q (lt-ltb s.1 (depth_of ps s.0) h))
+
+    pub tick_stays : has (urgent_of ps s.0 s.1) internal ≡ false → depth_of ps s.0 ≤ s.1 → Some c ≡ (state_with ps c).tick
+    tick_stays q h = ap (λ n. Some n) coded ∙ sym (tick_is false false q (le-ltb s.1 (depth_of ps s.0) h))
 
 -- ── a module of a book ──
 
@@ -57,8 +80,14 @@ nth_in (x ∷ xs) zero l = refl
 nth_in (x ∷ xs) (suc m) l = nth_in xs m (omega arith)
 
 module _ (rows : List Place) (ms : List ModuleRow) where
-  pub count_at_fault : (e : RowsFault) → fault rows ms ≡ Some e → length (opened rows ms) ≡ 0
-  count_at_fault e q = ap length (nothing rows ms e q)
+  -- by the verdict that a book keeps
+  pub count_at_fault : (v : Option RowsFault) → v ≡ fault rows ms → true ≡ is_some v → length (opened rows ms) ≡ 0
+  count_at_fault (Some e) q s = ap length (nothing rows ms e (sym q))
+  count_at_fault None q s = cc
+
+  pub no_fault : (v : Option RowsFault) → v ≡ fault rows ms → false ≡ is_some v → fault rows ms ≡ None
+  no_fault None q s = sym q
+  no_fault (Some e) q s = cc
 
   pub count_is : fault rows ms ≡ None → length (opened rows ms) ≡ length ms
   count_is q = ap length (opened_is rows ms q) ∙ length-map ms (module_at rows)
@@ -73,24 +102,18 @@ module _ (rows : List Place) (ms : List ModuleRow) where
 
   -- a module row of a book that is not at fault
   module _ (m : ℕ) (q : fault rows ms ≡ None) (l : m < length ms) where
-    pub its_row : Accepted rows m (row_of ms m)
-    its_row = each_accepted rows ms q m l
-
-    pub its_part : take ((row_of ms m).first + (row_of ms m).places - (row_of ms m).first) (drop (row_of ms m).first rows) ≡ places_in rows ms m
-    its_part = let z : (row_of ms m).first + (row_of ms m).places - (row_of ms m).first ≡ (row_of ms m).places = omega arith in ap (λ n. take n (drop (row_of ms m).first rows)) z
+    accepts : Accepted rows m (row_of ms m)
+    accepts = each_accepted rows ms q m l
 
   module _ (m : ℕ) (e : Equations) (h : Found rows ms m (Some e)) where
-    accepts : Accepted rows m (row_of ms m)
-    accepts = its_row m h.0 h.1
+    taken : Accepted rows m (row_of ms m)
+    taken = accepts m h.0 h.1
 
     its_length : length e.places.now ≡ (row_of ms m).places
-    its_length = ap length h.2 ∙ places_length rows m (row_of ms m) accepts
-
-    pub its_few : length e.places.now ≤ 256
-    its_few = omega (arith, its_length, accepts.few_places)
+    its_length = ap length h.2 ∙ places_length rows m (row_of ms m) taken
 
     pub its_start_small : e.start < 256
-    its_start_small = omega (arith, h.3, accepts.start_known, accepts.few_places)
+    its_start_small = omega (arith, h.3, taken.start_known, taken.few_places)
 
     its_module : nth (opened rows ms) m ≡ Some (module_at rows (row_of ms m))
     its_module = nth_in (opened rows ms) m (omega (arith, count_is h.0, h.1)) ∙ ap (λ x. Some x) (module_is rows ms h.0 m h.1)
@@ -104,17 +127,22 @@ module _ (rows : List Place) (ms : List ModuleRow) where
     pub its_state : (c : ℕ) → state_with e.places.now c ≡ state_in (opened rows ms) m c
     its_state c = ap (λ ps. state_with ps c) h.2 ∙ ap (λ (x : Module). state x c) (sym (module_is rows ms h.0 m h.1))
 
-    -- the ghost fields of a book, for its module m
-    pub its_table : (table : List Summaries) (v : Option RowsFault) → length table ≡ 64 → v ≡ fault rows ms → ((s : Site rows ms v) → (kept_at table s).depth ≡ (summary_at s).depth) → ((s : Site rows ms v) → (kept_at table s).moves ≡ (summary_at s).moves) → KnownIn e.places.now table m
-    its_table table v n w ds cs = record {
-      a_row = omega (arith, n, accepts.few_modules);
-      few_places = its_few;
-      known = subst (λ ps. Known ps (get_or table m no_summaries).of) (sym h.2) (record {
-        well_formed = accepts.well_formed;
-        depths = λ i l. ds (site i l);
-        counts = λ i l. cs (site i l);
-      });
-    }
-      where
-        site : (i : ℕ) → i < length (places_in rows ms m) → Site rows ms v
-        site i l = record { part = m; place = i; taken = w ∙ h.0; listed = h.1; of_module = l }
+-- the module row that a book has for number m, where its verdict is that nothing is wrong
+module _ (b : Book) (m : ℕ) (r : ModuleRow) (ok : false ≡ is_some b.verdict) (row : (m < length b.modules.now) × ((d : ModuleRow) → r ≡ get_or b.modules.now m d)) where
+  pub none_wrong : fault b.places.now b.modules.now ≡ None
+  none_wrong = no_fault b.places.now b.modules.now b.verdict b.tried ok
+
+  pub its_row : Accepted b.places.now m r
+  its_row = subst (λ x. Accepted b.places.now m x) (sym (row.1 _)) (accepts b.places.now b.modules.now m none_wrong row.0)
+
+  pub its_part : take (r.first + r.places - r.first) (drop r.first b.places.now) ≡ places_in b.places.now b.modules.now m
+  its_part = let z : r.first + r.places - r.first ≡ r.places = omega arith in ap (λ n. take n (drop r.first b.places.now)) z ∙ ap (λ (x : ModuleRow). take x.places (drop x.first b.places.now)) (row.1 _)
+
+  pub its_few : length (take (r.first + r.places - r.first) (drop r.first b.places.now)) ≤ book_places
+  its_few = omega (arith, length-take {A = Place}, its_row.few_places)
+
+  pub its_known : Known (take (r.first + r.places - r.first) (drop r.first b.places.now)) (get_or b.table.rows m [])
+  its_known = subst (λ x. Known x (get_or b.table.rows m [])) (sym its_part) (record {
+    well_formed = (accepts b.places.now b.modules.now m none_wrong row.0).well_formed;
+    summarized = b.kept (b.tried ∙ none_wrong) m row.0;
+  })

@@ -1,5 +1,5 @@
 -- One module after the other: the verdict so far, and what the table keeps. Assumes nothing.
-use Rattle.std.proofs.Common.{◌≡◌, ℕ, suc, ◌+◌, ◌<◌, ◌≤◌, ◌⊎◌, List, [], length, get_or, drop, set, IsErrAnd, Some, None, Err, Option, Result, sym, ap, ◌∙◌, subst, inl, inr, arith, get_or-set_other, get_or-set_same}
+use Rattle.std.proofs.Common.{◌≡◌, ℕ, suc, ◌+◌, ◌<◌, ◌≤◌, ◌⊎◌, List, [], length, drop, set, IsErrAnd, Some, None, Err, Option, Result, sym, ap, ◌∙◌, inl, inr, arith, get_or-set_other, get_or-set_same}
 use Rattle.std.proofs.lemmas.List.{drop_more, drop_all}
 use Rattle.std.proofs.lemmas.Result.{err_from_is_err_and}
 use Rattle.std.proofs.lemmas.Bool.{cases_eq}
@@ -8,9 +8,8 @@ use Rattle.rows.specs.declared.row.ModuleRow.{ModuleRow}
 use Rattle.rows.specs.declared.fault.RowsFault.{RowsFault}
 use Rattle.rows.specs.Opening.{module_fault, fault_from, fault, verdict_of, row_of, places_in}
 use Rattle.trial.specs.declared.summary.Summary.{Summary}
-use Rattle.book.specs.declared.table.Summaries.{Summaries}
-use Rattle.trial.specs.Summaries.{unknown, summary, Summarizes}
-use Rattle.book.specs.Keeping.{Site, summary_at, no_summaries, kept, kept_at}
+use Rattle.trial.specs.Summaries.{Summarizes}
+use Rattle.book.specs.Keeping.{Keeps}
 
 module _ (rows : List Place) (ms : List ModuleRow) where
   -- nothing is wrong with the modules before number m
@@ -33,26 +32,12 @@ module _ (rows : List Place) (ms : List ModuleRow) where
   unfolding fault
   fault_none m l so = sym (so ∙ ap (λ x. fault_from rows m x) (drop_all m ms l))
 
-  -- the table keeps the summaries of module m
-  abbrev pub Keeps : List Summaries → ℕ → Type 0
-  Keeps table m = (i : ℕ) → i < length (places_in rows ms m) → kept table m i ≡ summary (places_in rows ms m) (length (places_in rows ms m)) i
-
-  pub keeps_more : (m : ℕ) (table : List Summaries) (ss : List Summary) → m < length table → ((k : ℕ) → k < m → Keeps table k) → Summarizes (places_in rows ms m) (length (places_in rows ms m)) ss → (k : ℕ) → k < m + 1 → Keeps (set table m record { of = ss }) k
-  keeps_more m table ss room old new k l i h = go (cases_eq k m)
+  pub keeps_more : (m : ℕ) (table : List (List Summary)) (ss : List Summary) → m < length table → ((k : ℕ) → k < m → Keeps rows ms table k) → Summarizes (places_in rows ms m) (length (places_in rows ms m)) ss → (k : ℕ) → k < m + 1 → Keeps rows ms (set table m ss) k
+  keeps_more m table ss room old new k l = go (cases_eq k m)
     where
-      go : (k ≡ m) ⊎ (k ≡ m → ⊥) → kept (set table m record { of = ss }) k i ≡ summary (places_in rows ms k) (length (places_in rows ms k)) i
-      go (inl e) =
-          ap (λ (x : ℕ). get_or (get_or (set table m record { of = ss }) x no_summaries).of i unknown) e
-          ∙ ap (λ (x : Summaries). get_or x.of i unknown) (get_or-set_same table m record { of = ss } no_summaries room)
-          ∙ subst (λ x. Summarizes (places_in rows ms x) (length (places_in rows ms x)) ss) (sym e) new i h
-      go (inr ne) = ap (λ (x : Summaries). get_or x.of i unknown) (get_or-set_other table m k record { of = ss } no_summaries ne) ∙ old k (omega (arith, ne)) i h
-
-  -- what the ghost fields say
-  pub site_kept : (table : List Summaries) → ((k : ℕ) → k < length ms → Keeps table k) → (s : Site rows ms None) → kept_at table s ≡ summary_at s
-  site_kept table h s = h s.part s.listed s.place s.of_module
-
-  pub no_site : (e : RowsFault) → Site rows ms (Some e) → ⊥
-  no_site e s = let q = s.taken in let z : ◌≡◌ {A = ℕ} 0 1 = cc in omega arith
+      go : (k ≡ m) ⊎ (k ≡ m → ⊥) → Keeps rows ms (set table m ss) k
+      go (inl e) = rw (e, get_or-set_same table m ss [] room) new
+      go (inr ne) = rw (get_or-set_other table m k ss [] ne) (old k (omega (arith, ne)))
 
   -- what `?` hands on
   pub handed_on : (e : RowsFault) (r : Result (Unit {0}) RowsFault) → IsErrAnd r (λ x. x ≡ e) → Some e ≡ fault rows ms → r ≡ verdict_of (fault rows ms)

@@ -1,5 +1,7 @@
 -- What a walk finds at a place, from what it finds at the places that the place leads to. Assumes nothing.
-use Rattle.std.proofs.Common.{◌≡◌, ℕ, zero, suc, ◌-◌, ◌<◌, ◌≤◌, min, Bool, true, false, ◌&&◌, ◌||◌, List, [], ◌∷◌, ◌++◌, length, get_or, ℤ, Some, None, sym, refl, ap, ◌∙◌, subst, arith, length-append}
+use Rattle.std.proofs.Common.{◌≡◌, ℕ, zero, suc, ◌-◌, ◌<◌, ◌≤◌, min, Bool, true, false, ◌&&◌, ◌||◌, eqb, ◌⊎◌, inl, inr, List, [], ◌∷◌, ◌++◌, length, get_or, ℤ, None, sym, refl, ap, ◌∙◌, subst, arith, length-append}
+use Rattle.std.specs.Bool.{then_some}
+use Rattle.std.proofs.lemmas.Bool.{ne_eqb}
 use Rattle.action.specs.declared.set.ActionSet.{ActionSet}
 use Rattle.action.specs.Lists.{nth}
 use Rattle.action.specs.Action.{is_action, same}
@@ -13,7 +15,7 @@ use Rattle.rows.proofs.Fuel.{not_zero}
 use Rattle.rows.proofs.Derived.{Nexts, nexts, moves_is, urgent_is}
 use Rattle.trial.specs.declared.summary.Summary.{Summary}
 use Rattle.trial.specs.Summaries.{unknown}
-use Rattle.book.specs.Asking.{Known}
+use Rattle.book.specs.Keeping.{Known}
 use Rattle.book.proofs.Sets.{empty_is, only_is, union_is, alike}
 
 nth_left : {A : Type 0} (xs ys : List A) (k : ℕ) → k < length xs → nth (xs ++ ys) k ≡ nth xs k
@@ -40,16 +42,70 @@ either_false false b p q = q
 
 -- ── the walk goes on ──
 
-module _ (ps : List Place) (ok : WellFormed ps) where
-  pub some_left : (f i : ℕ) → ends ps f i ≡ true → 1 ≤ f
-  some_left zero i e = absurd (not_zero ps i e)
-  some_left (suc f) i e = omega arith
+-- the least number up to n that passes a test, and n where none below it does
+least : (ℕ → Bool) → ℕ → ℕ
+least t zero = zero
+least t (suc n) = elim (t zero) [ true ↦ zero | false ↦ suc (least (λ k. t (suc k)) n) ]
 
-  pub next_of : (f i : ℕ) (p : Place) → i < length ps → ends ps f i ≡ true → row ps i ≡ p → Nexts ps ok (f - 1) p
-  next_of zero i p l e q = absurd (not_zero ps i e)
-  next_of (suc f) i p l e q =
-      let z : f ≡ suc f - 1 = omega arith in
-      subst (λ n. Nexts ps ok n p) z (subst (λ x. Nexts ps ok f x) q (nexts ps ok f i l e))
+least_passes : (t : ℕ → Bool) (n : ℕ) → t n ≡ true → t (least t n) ≡ true
+unfolding least
+least_passes t zero h = h
+least_passes t (suc n) h = go (t zero) refl (least_passes (λ k. t (suc k)) n h)
+  where
+    go : (b : Bool) → t zero ≡ b → t (suc (least (λ k. t (suc k)) n)) ≡ true → t (elim b [ true ↦ zero | false ↦ suc (least (λ k. t (suc k)) n) ]) ≡ true
+    go true q r = q
+    go false q r = r
+
+least_first : (t : ℕ → Bool) (n k : ℕ) → t k ≡ true → least t n ≤ k
+unfolding least
+least_first t zero k h = omega arith
+least_first t (suc n) zero h = rw (h, least) (omega arith)
+least_first t (suc n) (suc k) h = go (t zero) (least_first (λ m. t (suc m)) n k h)
+  where
+    go : (b : Bool) → least (λ m. t (suc m)) n ≤ k → elim b [ true ↦ zero | false ↦ suc (least (λ m. t (suc m)) n) ] ≤ suc k
+    go true r = omega arith
+    go false r = omega arith
+
+-- how many places a walk from place i goes through
+pub left : List Place → ℕ → ℕ
+left ps i = least (λ f. ends ps f i) (length ps)
+
+module _ (ps : List Place) (ok : WellFormed ps) where
+  -- a follower is a place, and less of the walk is left there
+  abbrev pub Follows : ℕ → ℕ → Type 0
+  Follows i j = (j < length ps) × (left ps j < left ps i)
+
+  abbrev pub Followed : ℕ → Place → Type 0
+  Followed i Nil = Unit {0}
+  Followed i (Act a j) = Unit {0}
+  Followed i (Wait j) = Follows i j
+  Followed i (Sum m o) = Follows i m × Follows i o
+  Followed i (Name j) = Follows i j
+
+  pub followed : (i : ℕ) → i < length ps → Followed i (row ps i)
+  unfolding left ends
+  followed i l = go (left ps i) refl (least_passes (λ f. ends ps f i) (length ps) (ok.no_return i l))
+    where
+      go : (f : ℕ) → left ps i ≡ f → ends ps f i ≡ true → Followed i (row ps i)
+      go zero q e = absurd (not_zero ps i e)
+      go (suc f) q e = each (row ps i) (nexts ps ok f i l e)
+        where
+          one : (j : ℕ) → (j < length ps) × (ends ps f j ≡ true) → Follows i j
+          one j h = let n = least_first (λ g. ends ps g j) (length ps) f h.1 in (h.0, omega (arith, n, q))
+
+          each : (p : Place) → Nexts ps ok f p → Followed i p
+          each Nil h = tt
+          each (Act a j) h = tt
+          each (Wait j) h = one j h
+          each (Sum m o) h = (one m h.0, one o h.1)
+          each (Name j) h = one j h
+
+  pub next_of : (i : ℕ) (p : Place) → i < length ps → row ps i ≡ p → Followed i p
+  next_of i p l q = subst (λ x. Followed i x) q (followed i l)
+
+  pub next_on : (i j : ℕ) → i < length ps → (row ps i ≡ Wait j) ⊎ (row ps i ≡ Name j) → Follows i j
+  next_on i j l (inl q) = next_of i (Wait j) l q
+  next_on i j l (inr q) = next_of i (Name j) l q
 
   -- a place without moves has no urgent action
   quiet_by : (f i k : ℕ) (a : ℤ) → i < length ps → ends ps f i ≡ true → length (moves_of ps i) ≡ 0 → is_urgent ps i k a ≡ false
@@ -101,10 +157,10 @@ module _ (ps : List Place) (ok : WellFormed ps) where
 
 module _ (ps : List Place) (ss : List Summary) (known : Known ps ss) where
   pub count_is : (i : ℕ) → i < length ps → (get_or ss i unknown).moves ≡ length (moves_of ps i)
-  count_is i l = let e : (get_or ss i unknown).moves ≡ min (suc most_moves) (length (moves_of ps i)) = known.counts i l in omega (arith, known.well_formed.few i l)
+  count_is i l = let e : (get_or ss i unknown).moves ≡ min (suc most_moves) (length (moves_of ps i)) = ap (λ (x : Summary). x.moves) (known.summarized i l) in omega (arith, known.well_formed.few i l)
 
   pub depth_is : (i : ℕ) → i < length ps → (get_or ss i unknown).depth ≡ depth_of ps i
-  depth_is i l = let e : (get_or ss i unknown).depth ≡ min ages (depth_of ps i) = known.depths i l in omega (arith, known.well_formed.shallow i l)
+  depth_is i l = let e : (get_or ss i unknown).depth ≡ min ages (depth_of ps i) = ap (λ (x : Summary). x.depth) (known.summarized i l) in omega (arith, known.well_formed.shallow i l)
 
   module _ (i : ℕ) (l : i < length ps) where
     pub urgent_quiet : (s : ActionSet) (k : ℕ) → (get_or ss i unknown).moves ≡ 0 → ((a : ℤ) → has s a ≡ false) → s ≡ urgent_of ps i k
@@ -121,19 +177,16 @@ module _ (ps : List Place) (ss : List Summary) (known : Known ps ss) where
     pub move_nil : (n : ℕ) → row ps i ≡ Nil → None ≡ nth (moves_of ps i) n
     move_nil n q = sym (nth_of Nil n q)
 
-    pub move_act : (n j : ℕ) (a : ℤ) → row ps i ≡ Act a j → n ≡ 0 → Some (move a (code j 0)) ≡ nth (moves_of ps i) n
-    move_act zero j a q z = sym (nth_of (Act a j) 0 q)
-    move_act (suc n) j a q z = absurd (omega arith)
+    pub move_act : (n j d : ℕ) (a b : ℤ) → row ps i ≡ Act a j → b ≡ a → d ≡ code j 0 → then_some (eqb n 0) (move b d) ≡ nth (moves_of ps i) n
+    move_act n j d a b q e z = rw (e, z) (go n ∙ sym (nth_of (Act a j) n q))
+      where
+        go : (k : ℕ) → then_some (eqb k 0) (move a (code j 0)) ≡ nth (move a (code j 0) ∷ []) k
+        go zero = refl
+        go (suc k) = ap (λ x. then_some x (move a (code j 0))) (ne_eqb (suc k) 0 (λ h. absurd (omega arith)))
 
-    pub move_past : (n j : ℕ) (a : ℤ) → row ps i ≡ Act a j → (n ≡ 0 → ⊥) → None ≡ nth (moves_of ps i) n
-    move_past zero j a q z = absurd (z refl)
-    move_past (suc n) j a q z = sym (nth_of (Act a j) (suc n) q)
-
-    pub move_wait : (n j : ℕ) → row ps i ≡ Wait j → nth (moves_of ps j) n ≡ nth (moves_of ps i) n
-    move_wait n j q = sym (nth_of (Wait j) n q)
-
-    pub move_name : (n j : ℕ) → row ps i ≡ Name j → nth (moves_of ps j) n ≡ nth (moves_of ps i) n
-    move_name n j q = sym (nth_of (Name j) n q)
+    pub move_on : (n j : ℕ) → (row ps i ≡ Wait j) ⊎ (row ps i ≡ Name j) → nth (moves_of ps j) n ≡ nth (moves_of ps i) n
+    move_on n j (inl q) = sym (nth_of (Wait j) n q)
+    move_on n j (inr q) = sym (nth_of (Name j) n q)
 
     pub move_left : (n m o : ℕ) → row ps i ≡ Sum m o → m < length ps → n < (get_or ss m unknown).moves → nth (moves_of ps m) n ≡ nth (moves_of ps i) n
     move_left n m o q h b = sym (nth_of (Sum m o) n q ∙ nth_left (moves_of ps m) (moves_of ps o) n (omega (arith, count_is m h)))

@@ -1,30 +1,21 @@
--- The table of an opened book: the summaries of each module's places. Assumes nothing.
-use Rattle.std.specs.Prelude.{◌≡◌, ℕ, ◌<◌, List, [], length, get_or, None, Option, slice_index_or}
+-- What an opened book keeps of its modules, and what its questions need of one. Assumes nothing.
+use Rattle.std.specs.Prelude.{◌≡◌, ℕ, ◌<◌, List, [], length, get_or, None, Option}
 use Rattle.rows.specs.declared.row.Place.{Place}
 use Rattle.rows.specs.declared.row.ModuleRow.{ModuleRow}
 use Rattle.rows.specs.declared.fault.RowsFault.{RowsFault}
-use Rattle.rows.specs.Opening.{places_in}
+use Rattle.rows.specs.Opening.{WellFormed, places_in}
 use Rattle.trial.specs.declared.summary.Summary.{Summary}
-use Rattle.book.specs.declared.table.Summaries.{Summaries}
-use Rattle.trial.specs.Summaries.{unknown, summary}
+use Rattle.trial.specs.Summaries.{Summarizes}
 
--- a place of rows whose verdict is that nothing is wrong
-pub record Site (rows : List Place) (ms : List ModuleRow) (verdict : Option RowsFault) : Type 0 where
-  pub part : ℕ
-  pub place : ℕ
-  pub taken : verdict ≡ None
-  pub listed : part < length ms
-  pub of_module : place < length (places_in rows ms part)
+-- row m of a table keeps the summaries of module m's places
+abbrev pub Keeps : List Place → List ModuleRow → List (List Summary) → ℕ → Type 0
+Keeps rows ms table m = Summarizes (places_in rows ms m) (length (places_in rows ms m)) (get_or table m [])
 
-abbrev pub summary_at : {rows : List Place} {ms : List ModuleRow} {verdict : Option RowsFault} → Site rows ms verdict → Summary
-summary_at {rows} {ms} s = summary (places_in rows ms s.part) (length (places_in rows ms s.part)) s.place
+-- .. for each module, where the verdict is that nothing is wrong
+abbrev pub KeepsAll : List Place → List ModuleRow → List (List Summary) → Option RowsFault → Type 0
+KeepsAll rows ms table verdict = verdict ≡ None → (m : ℕ) → m < length ms → Keeps rows ms table m
 
-abbrev pub no_summaries : Summaries
-no_summaries = record { of = [] }
-
--- what a table keeps of it: row by module, then by place
-abbrev pub kept : List Summaries → ℕ → ℕ → Summary
-kept table m i = slice_index_or (get_or table m no_summaries).of i unknown
-
-abbrev pub kept_at : {rows : List Place} {ms : List ModuleRow} {verdict : Option RowsFault} → List Summaries → Site rows ms verdict → Summary
-kept_at table s = kept table s.part s.place
+-- places that passed every trial, with their summaries
+pub record Known (ps : List Place) (ss : List Summary) : Type 0 where
+  pub well_formed : WellFormed ps
+  pub summarized : Summarizes ps (length ps) ss

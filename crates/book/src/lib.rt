@@ -3,14 +3,16 @@
 
 ghost use Rattle.std.specs.Prelude.{◌≡◌};
 ghost use Rattle.rows.specs.Opening.{fault};
-ghost use Rattle.book.specs.Keeping.{Site, kept_at, summary_at};
+ghost use Rattle.book.specs.Keeping.{KeepsAll};
 
 use rows::{ModuleRow, Place, RowsFault};
-use table::Summaries;
+use table::Table;
 
+mod equations;
 mod opening;
 mod questions;
 mod table;
+mod walks;
 
 pub use opening::try_rows;
 
@@ -19,9 +21,8 @@ pub use opening::try_rows;
 pub struct Book<'a> {
     places: &'a [Place],
     modules: &'a [ModuleRow],
-    table: [Summaries; 64],
+    table: Table,
     verdict: Option<RowsFault>,
     ghost tried: { verdict ≡ fault places.now modules.now },
-    ghost depths: { (s : Site places.now modules.now verdict) → (kept_at table s).depth ≡ (summary_at s).depth },
-    ghost counts: { (s : Site places.now modules.now verdict) → (kept_at table s).moves ≡ (summary_at s).moves },
+    ghost kept: { KeepsAll places.now modules.now table.rows verdict },
 }

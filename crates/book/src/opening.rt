@@ -1,14 +1,15 @@
 // Opening rows.
-ghost use Rattle.std.specs.Prelude.{◌≡◌, None};
+ghost use Rattle.std.specs.Prelude.{◌≡◌, None, IfOk};
+ghost use Rattle.std.specs.Result.{result_err};
 ghost use Rattle.rows.specs.Opening.{fault as fault_of_rows, verdict_of};
 ghost use Rattle.rows.specs.Rules.{BooksByTheRules, WaitsDelayNothing, TimeDeterministic};
 ghost use Rattle.rows.specs.Walks.{TellsOfWalks};
 ghost use Rattle.rows.specs.Cases.{Worked};
 
 use super::Book;
-use super::table::Summaries;
+use super::table::Table;
 use rows::{ModuleRow, Place, RowsFault};
-use trial::{UNKNOWN, try_module};
+use trial::{Summary, try_module};
 
 impl<'a> Book<'a> {
     // Opens rows as a book, whatever they hold. Where something is wrong with them, the book has no modules.
@@ -21,10 +22,12 @@ impl<'a> Book<'a> {
         ensures time { TimeDeterministic }
         ensures worked { Worked }
     {
-        let mut table = [Summaries { of: [UNKNOWN; 256] }; 64];
-        for part in 0..modules.len() {
-            match try_module(places, part, modules[part]) {
-                Ok(summaries) => table[part] = Summaries { of: summaries },
+        let mut table = Table {
+            rows: [[Summary::default(); 256]; 64],
+        };
+        for (part, row) in modules.iter().enumerate() {
+            match try_module(places, part, *row) {
+                Ok(summaries) => table.rows[part] = summaries,
                 Err(found) => {
                     return Book {
                         places,
@@ -43,6 +46,18 @@ impl<'a> Book<'a> {
         }
     }
 
+    // Opens rows as a book, or tells what is wrong with them.
+    pub fn open(places: &'a [Place], modules: &'a [ModuleRow]) -> Result<Book<'a>, RowsFault>
+        ensures opened { IfOk result (λ b. (b.places.now ≡ places.now) × (b.modules.now ≡ modules.now)) }
+        ensures judged { result_err result ≡ fault_of_rows places.now modules.now }
+    {
+        let book = Book::over(places, modules);
+        match book.fault() {
+            Some(fault) => Err(fault),
+            None => Ok(book),
+        }
+    }
+
     // What is wrong with the rows, if anything.
     pub fn fault(&self) -> Option<RowsFault>
         ensures judged { result ≡ fault_of_rows self.now.places.now self.now.modules.now }
@@ -56,8 +71,8 @@ impl<'a> Book<'a> {
 pub fn try_rows(places: &[Place], modules: &[ModuleRow]) -> Result<(), RowsFault>
     ensures { result ≡ verdict_of (fault_of_rows places.now modules.now) }
 {
-    for part in 0..modules.len() {
-        try_module(places, part, modules[part])?;
+    for (part, row) in modules.iter().enumerate() {
+        try_module(places, part, *row)?;
     }
     Ok(())
 }

@@ -1,8 +1,9 @@
-// A row of the table that a book keeps.
+// The table that a book keeps.
 use trial::Summary;
 
-// The summaries of a module's places, by number.
+// The summaries of each module's places. A struct of its own, since no proof is made of a book, which holds references,
+// with an array of arrays for a field.
 #[derive(Clone, Copy)]
-pub struct Summaries {
-    pub of: [Summary; 256],
+pub struct Table {
+    pub rows: [[Summary; 256]; 64],
 }

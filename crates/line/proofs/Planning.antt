@@ -1,18 +1,17 @@
 -- A plan, tried port by port and slot by slot. Assumes nothing.
-use Rattle.std.proofs.Common.{◌≡◌, ℕ, zero, suc, ◌+◌, ◌<◌, ◌≤◌, true, false, ◌&&◌, ◌||◌, eqb, ◌⊎◌, List, [], ◌∷◌, ◌++◌, map, length, get_or, take, drop, set, ℤ, pos, Some, None, Ok, Err, sym, refl, ap, ◌∙◌, subst, arith, length-set}
+use Rattle.std.proofs.Common.{◌≡◌, ℕ, zero, suc, ◌+◌, ◌<◌, ◌≤◌, true, false, eqb, List, [], ◌∷◌, ◌++◌, map, length, get_or, take, drop, set, ℤ, pos, Some, None, Ok, Err, sym, ap, ◌∙◌, subst, arith, length-set}
 use lib.ListN.{get_or-map, length-map}
 use Rattle.std.proofs.lemmas.List.{at_drop_all, take_more, take_more_set, take_all, map_push}
 use Rattle.action.specs.Lists.{all, any}
-use Rattle.action.specs.Action.{is_action, same, last_port}
+use Rattle.action.specs.Action.{same}
 use Rattle.action.specs.declared.set.ActionSet.{ActionSet}
-use Rattle.action.specs.Sets.{has}
 use Rattle.catalogue.specs.Catalogue.{Catalogue, Lawful}
 use Rattle.line_rules.specs.declared.DrawFault.{DrawFault}
 use Rattle.line_rules.specs.Line as rules
 use Rattle.line_rules.specs.Drawing.{is_port, slots_fault, draw_fault, planned}
 use Rattle.line_rules.specs.Swapping.{NoHistorySlows}
 use Rattle.line_rules.proofs.Histories.{no_history_slows}
-use Rattle.line_rules.proofs.Drawn.{plan_drawn, slot_passes, slot_stops, to_come, port_taken, ports_taken, port_passes, port_stops}
+use Rattle.line_rules.proofs.Drawn.{plan_drawn, slot_passes, slot_stops, to_come, ports_taken}
 use Rattle.line.specs.declared.lines.Slot.{Slot}
 use Rattle.line.specs.declared.lines.drawing.SlotPlan.{SlotPlan}
 use Rattle.line.specs.Meaning.{slot_of, plan_of, plans, Ported, Fitting}
@@ -24,19 +23,7 @@ pub record PortsSoFar (ps : List ℕ) (i : ℕ) (set : ActionSet) : Type 0 where
   pub good : all is_port (drop i ps) ≡ all is_port ps
   pub gathered : (a : ℤ) → to_come set (drop i ps) a ≡ any (λ p. same (pos p) a) ps
 
-pub no_ports : (ps : List ℕ) (set : ActionSet) → ((a : ℤ) → has set a ≡ false) → PortsSoFar ps 0 set
-no_ports ps set none = record { good = refl; gathered = λ a. ap (λ b. b || any (λ p. same (pos p) a) ps) (none a) }
-
 module _ (ps : List ℕ) (i : ℕ) (set : ActionSet) (so_far : PortsSoFar ps i set) where
-  pub port_more : (more : ActionSet) → i < length ps → 1 ≤ get_or ps i 0 → get_or ps i 0 ≤ last_port → ((a : ℤ) → has more a ≡ (has set a || (is_action (pos (get_or ps i 0)) && same (pos (get_or ps i 0)) a))) → PortsSoFar ps (i + 1) more
-  port_more more l low high h = record {
-    good = sym (port_passes ps i l low high) ∙ so_far.good;
-    gathered = λ a. port_taken set more ps i (get_or ps i 0) l refl high h a ∙ so_far.gathered a;
-  }
-
-  pub port_wrong : i < length ps → (get_or ps i 0 < 1) ⊎ (last_port < get_or ps i 0) → Ported ps None
-  port_wrong l h = sym so_far.good ∙ port_stops ps i l h
-
   pub port_all : length ps ≤ i → Ported ps (Some set)
   port_all l =
       let good : all is_port ps ≡ true = sym so_far.good ∙ at_drop_all (all is_port) ps i l in
@@ -48,9 +35,6 @@ pub record SlotsSoFar (ms : Catalogue) (xs : List rules.Slot) (i : ℕ) (held : 
   pub whole : length held ≡ 16
   pub fitted : map slot_of (take i held) ≡ take i xs
   pub faults : slots_fault ms (drop i xs) ≡ slots_fault ms xs
-
-pub no_slots : (ms : Catalogue) (xs : List rules.Slot) (held : List Slot) → length held ≡ 16 → SlotsSoFar ms xs 0 held
-no_slots ms xs held l = record { whole = l; fitted = refl; faults = refl }
 
 module _ (ms : Catalogue) (xs : List rules.Slot) (i : ℕ) (held : List Slot) (so_far : SlotsSoFar ms xs i held) (few : length xs ≤ 16) (l : i < length xs) where
   pub slot_more : (x : Slot) → Fitting ms (get_or xs i rules.no_slot) (Ok x) → SlotsSoFar ms xs (i + 1) (set held i x)

@@ -1,6 +1,9 @@
 -- What a swap answers and leaves, case by case. Assumes nothing.
-use Rattle.std.proofs.Common.{◌≡◌, ℕ, zero, suc, ◌<◌, ◌≤◌, Bool, true, false, ltb, List, [], ◌∷◌, map, length, get_or, take, set, Ok, Err, Result, sym, refl, ap, ◌∙◌, subst, arith}
-use Rattle.std.proofs.lemmas.List.{map-set}
+use Rattle.std.proofs.Common.{◌≡◌, ℕ, zero, suc, ◌≤◌, Bool, true, false, ltb, List, [], ◌∷◌, map, length, take, set, Some, None, inl, inr, Ok, Err, Result, sym, refl, ap, ◌∙◌, subst, arith}
+use lib.ListN.{length-map}
+use Rattle.std.specs.List.{slice_get}
+use Rattle.std.proofs.lemmas.List.{get_or-map, map-set}
+use Rattle.std.proofs.lemmas.Option.{slice_get_cases, slice_get_within, get_or_from_slice_get}
 use Rattle.std.proofs.lemmas.Bool.{lt-ltb, le-ltb}
 use Rattle.catalogue.specs.Catalogue.{Catalogue, Lawful}
 use Rattle.pair_table.specs.declared.PairRow.{PairRow}
@@ -14,8 +17,7 @@ use Rattle.line_rules.specs.Swapping.{Swap, asked, by_rank, judged, swap_answer,
 use Rattle.line_rules.proofs.Histories.{no_swap_slows}
 use Rattle.line.specs.declared.lines.Slot.{Slot}
 use Rattle.line.specs.declared.lines.Line.{Line}
-use Rattle.line.specs.Meaning.{slot_of, line_of}
-use Rattle.line.proofs.Held.{count_is, slot_is}
+use Rattle.line.specs.Meaning.{slot_of, in_use, line_of}
 
 set_take : {A : Type 0} (n : ℕ) (xs : List A) (i : ℕ) (v : A) → take n (set xs i v) ≡ set (take n xs) i v
 set_take zero [] i v = refl
@@ -41,32 +43,33 @@ module _ (ms : Catalogue) (lawful : Lawful ms) (l : Line) (i new : ℕ) (table :
       let is : now ≡ swapped ms (line_of l) w = n ∙ ap (left_by (line_of l) w) a in
       record { answer_is = a; line_is = is; table_is = t; promise = subst (NoSwapSlows ms (line_of l)) (sym is) (no_swap_slows ms lawful (line_of l) w) }
 
-  pub no_such_slot : l.count ≤ i → Leaves (Err UnknownSlot) (line_of l) table
+  pub no_such_slot : None ≡ slice_get (in_use l) i → Leaves (Err UnknownSlot) (line_of l) table
   unfolding swap_answer swap_table
-  no_such_slot k =
-      let e : ltb i (length (line_of l).slots) ≡ false = le-ltb i (length (line_of l).slots) (omega (arith, count_is l)) in
+  no_such_slot none =
+      let past : length (in_use l) ≤ i = elim (slice_get_cases (in_use l) i).1 [ inl y ↦ absurd (cc (none, y.2)) | inr y ↦ y.0 ] in
+      let e : ltb i (length (line_of l).slots) ≡ false = le-ltb i (length (line_of l).slots) (omega (arith, length-map (in_use l) slot_of)) in
       leaves (Err UnknownSlot) (line_of l) table
       (sym (ap {B = Result ℕ SwapFault} (λ (b : Bool). elim b [ true ↦ judged (answer ms new (rules.slot (line_of l) i).holds (length table)) | false ↦ Err UnknownSlot ]) e)) refl
       (sym (ap {B = List PairRow} (λ (b : Bool). elim b [ true ↦ table_after ms new (rules.slot (line_of l) i).holds table | false ↦ table ]) e))
 
-  module _ (k : i < l.count) (x : Slot) where
-    abbrev was : Slot
-    was = get_or l.slots i x
+  module _ (was : Slot) (found : Some was ≡ slice_get (in_use l) i) where
+    is_slot : rules.slot (line_of l) i ≡ slot_of was
+    is_slot = get_or-map slot_of (in_use l) i was rules.no_slot (slice_get_within (in_use l) i was (sym found)) ∙ ap slot_of (get_or_from_slice_get (in_use l) i was was (sym found))
 
     here : ltb i (length (line_of l).slots) ≡ true
-    here = lt-ltb i (length (line_of l).slots) (omega (arith, count_is l))
+    here = lt-ltb i (length (line_of l).slots) (omega (arith, length-map (in_use l) slot_of, slice_get_within (in_use l) i was (sym found)))
 
     answered : swap_answer ms (line_of l) w ≡ judged (answer ms new was.holds (length table))
     unfolding swap_answer
     answered =
         ap {B = Result ℕ SwapFault} (λ (b : Bool). elim b [ true ↦ judged (answer ms new (rules.slot (line_of l) i).holds (length table)) | false ↦ Err UnknownSlot ]) here
-        ∙ ap (λ (s : rules.Slot). judged (answer ms new s.holds (length table))) (slot_is l i x k)
+        ∙ ap (λ (s : rules.Slot). judged (answer ms new s.holds (length table))) is_slot
 
     filled : (rows : List PairRow) → rows ≡ table_after ms new was.holds table → rows ≡ swap_table ms (line_of l) i new table
     unfolding swap_table
     filled rows e = e ∙ sym (
         ap {B = List PairRow} (λ (b : Bool). elim b [ true ↦ table_after ms new (rules.slot (line_of l) i).holds table | false ↦ table ]) here
-        ∙ ap (λ (s : rules.Slot). table_after ms new s.holds table) (slot_is l i x k))
+        ∙ ap (λ (s : rules.Slot). table_after ms new s.holds table) is_slot)
 
     pub not_compared : (e : CompareFault) (rows : List PairRow) → Err e ≡ answer ms new was.holds (length table) → rows ≡ table_after ms new was.holds table → Leaves (Err (Compare e)) (line_of l) rows
     not_compared e rows a t = leaves (Err (Compare e)) (line_of l) rows (ap judged a ∙ sym answered) refl (filled rows t)
@@ -92,5 +95,5 @@ module _ (ms : Catalogue) (lawful : Lawful ms) (l : Line) (i new : ℕ) (table :
           (ap (by_rank v.pairs) (sym z) ∙ ranked)
           (ap {B = rules.Line} (λ (xs : List rules.Slot). record { slots = xs; hidden = l.hidden })
           (ap (map slot_of) (set_take l.count l.slots i fitted) ∙ map-set slot_of (take l.count l.slots) i fitted
-          ∙ ap (λ (s : rules.Slot). set (line_of l).slots i (record { holds = new; wiring = s.wiring })) (sym (slot_is l i x k))))
+          ∙ ap (λ (s : rules.Slot). set (line_of l).slots i (record { holds = new; wiring = s.wiring })) (sym is_slot)))
           (filled rows t)

@@ -22,6 +22,7 @@ struct Slot {
     renaming: Renaming,
 }
 
+// The slots stand in an array with their count, since a line is `Copy`, which a vector is not.
 #[derive(Clone, Copy)]
 pub struct Line {
     slots: [Slot; MOST_SLOTS],

@@ -1,11 +1,12 @@
 -- Summaries, followed through one place more in each round. Assumes nothing.
-use Rattle.std.proofs.Common.{◌≡◌, ℕ, zero, suc, ◌+◌, ◌<◌, min, max, Bool, true, ◌&&◌, ltb, List, ◌++◌, length, get_or, replicate, sym, refl, ap, ◌∙◌, arith, length-append}
+use Rattle.std.proofs.Common.{◌≡◌, ℕ, suc, ◌+◌, ◌<◌, ◌≤◌, min, max, Bool, true, false, ◌&&◌, ltb, List, ◌++◌, length, get_or, replicate, sym, refl, ap, ◌∙◌, arith, length-append}
 use Rattle.std.proofs.lemmas.Bool.{ltb-true}
+use Rattle.std.proofs.lemmas.List.{get_or-replicate}
 use Rattle.catalogue.specs.Catalogue.{most_moves}
 use Rattle.rows.specs.declared.row.Place.{Place}
 use Rattle.rows.specs.declared.row.Place.TheVariants.{Nil, Act, Wait, Sum, Name}
 use Rattle.rows.specs.Places.{ages, row, ends, depth, moves, ends_by, depth_by, moves_by}
-use Rattle.rows.specs.Opening.{inside}
+use Rattle.rows.specs.Opening.{book_places, inside}
 use Rattle.rows.proofs.Fuel.{both_l, both_r}
 use Rattle.trial.specs.declared.summary.Summary.{Summary}
 use Rattle.trial.specs.Summaries.{unknown, summary_by, summary, Summarizes}
@@ -39,14 +40,10 @@ summary_same (Sum l r) n g h i e =
     ∙ ap (λ (x : Summary). record { guarded = (h l).guarded && x.guarded; depth = max (h l).depth x.depth; moves = min (suc most_moves) ((h l).moves + x.moves) }) (e r (ltb-true r n (both_r (ltb l n) (ltb r n) i)))
 summary_same (Name j) n g h i e = e j (ltb-true j n i)
 
-pub blank : (n i : ℕ) → get_or (replicate n unknown) i unknown ≡ unknown
-blank zero i = refl
-blank (suc n) zero = refl
-blank (suc n) (suc i) = blank n i
-
-pub first_round : (ps : List Place) (ss : List Summary) → ((i : ℕ) → get_or ss i unknown ≡ unknown) → Summarizes ps 0 ss
+-- followed through no place, each summary is the default
+pub first_round : (ps : List Place) (s : Summary) → length ps ≤ book_places → (s.guarded ≡ false) × ((s.depth ≡ 0) × (s.moves ≡ 0)) → Summarizes ps 0 (replicate book_places s)
 unfolding ends depth moves
-first_round ps ss h i l = h i
+first_round ps s few h i l = get_or-replicate book_places i s unknown (omega arith) ∙ ap (λ g. record { guarded = g; depth = s.depth; moves = s.moves }) h.0 ∙ summary_eq false _ _ _ _ h.1.0 h.1.1
 
 pub next_round : (ps : List Place) (f : ℕ) (old new : List Summary) → AllInside ps → Summarizes ps f old → ((i : ℕ) → i < length ps → get_or new i unknown ≡ summary_by (row ps i) (λ j. get_or old j unknown)) → Summarizes ps (f + 1) new
 next_round ps f old new a k h i l =

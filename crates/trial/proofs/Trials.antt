@@ -1,151 +1,77 @@
--- One criterion over all places, then all criteria, then the module's row. Assumes nothing.
-use Rattle.std.proofs.Common.{◌≡◌, ℕ, suc, ◌+◌, ◌-◌, ◌<◌, ◌≤◌, min, Bool, true, false, ltb, leb, List, length, get_or, IsErrAnd, Some, None, Ok, Err, Option, Result, sym, refl, ap, ◌∙◌, subst, arith}
-use Rattle.std.proofs.lemmas.Bool.{ltb-true, ltb-false, leb-true, leb-false, lt-ltb, le-ltb, le-leb, lt-leb}
-use Rattle.std.proofs.lemmas.Result.{err_from_is_err_and}
+-- The trials of a module, one after the other, then the module's row. Assumes nothing.
+use Rattle.std.proofs.Common.{◌≡◌, ℕ, suc, ◌+◌, ◌<◌, ◌≤◌, min, not, Bool, true, false, ltb, leb, cond, List, [], ◌∷◌, length, get_or, position, take, Some, None, Option, sym, refl, ap, ◌∙◌, add-zero, add-one, arith}
+use Rattle.std.proofs.lemmas.Bool.Decides.{nat_tests}
+use Rattle.std.proofs.lemmas.List.{get_or-take, length-take-le}
+use Rattle.std.proofs.lemmas.Iterator.Adapters.{position_from-zero}
+use Rattle.std.specs.List.{position_from}
 use Rattle.catalogue.specs.Catalogue.{most_moves}
 use Rattle.rows.specs.declared.row.Place.{Place}
-use Rattle.rows.specs.declared.row.ModuleRow.{ModuleRow}
-use Rattle.rows.specs.declared.fault.RowsFault.{RowsFault}
-use Rattle.rows.specs.declared.fault.RowsFault.TheVariants.{ManyModules, ManyPlaces, BeyondRows, NoStart}
-use Rattle.rows.specs.Places.{ages, row, depth_of, moves_of}
-use Rattle.rows.specs.Opening.{book_modules, book_places, places_of, first_failing, unless, unless_at, places_fault, module_fault, verdict_of}
+use Rattle.rows.specs.declared.row.Place.TheVariants.{Nil}
+use Rattle.rows.specs.declared.fault.RowsFault.TheVariants.{Outside, NoAction, Unguarded, Deep, ManyMoves}
+use Rattle.rows.specs.Places.{ages, row, guarded, depth_of, moves_of}
+use Rattle.rows.specs.Opening.{book_places, inside, by_action, first_failing, unless_at, try_each, places_fault}
 use Rattle.rows.proofs.Accepted.{none_fails}
 use Rattle.trial.specs.declared.summary.Summary.{Summary}
-use Rattle.trial.specs.declared.trying.Criterion.{Criterion}
-use Rattle.trial.specs.declared.trying.Criterion.TheVariants.{Inside, ByAction, Guarded, Shallow, FewMoves}
 use Rattle.trial.specs.Summaries.{unknown, Summarizes}
-use Rattle.trial.specs.Trying.{meets, wanted, fault_of, trial, Enough, AllInside, TriedPlaces, Tried}
+use Rattle.trial.specs.Trying.{AllInside}
 
--- ── the first place that fails ──
+-- ── the first place that fails, as a search finds it ──
 
-module _ (f : ℕ → Bool) where
-  at_hand : (n i : ℕ) → i < n → first_failing f (n - i) i ≡ first_failing f (suc (n - (i + 1))) i
-  at_hand n i l = let e : n - i ≡ suc (n - (i + 1)) = omega arith in ap (λ x. first_failing f x i) e
+first_from : {A : Type 0} (t : A → Bool) (f : ℕ → Bool) (d : A) (xs : List A) (k : ℕ) → ((i : ℕ) → i < length xs → t (get_or xs i d) ≡ not (f (k + i))) → position_from t k xs ≡ first_failing f (length xs) k
+first_from t f d [] k h = refl
+first_from t f d (x ∷ xs) k h =
+    let here : t x ≡ not (f k) = rw add-zero at (h 0 (omega arith)) in
+    let later : position_from t (k + 1) xs ≡ first_failing f (length xs) (suc k) = rw add-one (first_from t f d xs (suc k) (λ i l. let e : k + suc i ≡ suc k + i = omega arith in h (suc i) (omega arith) ∙ ap (λ n. not (f n)) e)) in
+    rw (here, later) (elim (f k) as (λ b. cond (not b) (Some k) (first_failing f (length xs) (suc k)) ≡ elim b [ true ↦ first_failing f (length xs) (suc k) | false ↦ Some k ]) [ true ↦ refl | false ↦ refl ])
 
-  pub fails_here : (n i : ℕ) → i < n → f i ≡ false → first_failing f (n - i) i ≡ Some i
-  fails_here n i l q = at_hand n i l ∙ ap {B = Option ℕ} (λ (b : Bool). elim b [ true ↦ first_failing f (n - (i + 1)) (suc i) | false ↦ Some i ]) q
+first : {A : Type 0} (t : A → Bool) (f : ℕ → Bool) (d : A) (xs : List A) (n : ℕ) → length xs ≡ n → ((i : ℕ) → i < n → t (get_or xs i d) ≡ not (f i)) → position t xs ≡ first_failing f n 0
+first t f d xs n l h = position_from-zero t xs ∙ first_from t f d xs 0 (λ i m. let e : i ≡ 0 + i = omega arith in h i (omega arith) ∙ ap (λ k. not (f k)) e) ∙ ap (λ k. first_failing f k 0) l
 
-  pub fails_later : (n i : ℕ) → i < n → f i ≡ true → first_failing f (n - i) i ≡ first_failing f (n - (i + 1)) (i + 1)
-  fails_later n i l q =
-      let s : suc i ≡ i + 1 = omega arith in
-      at_hand n i l ∙ ap {B = Option ℕ} (λ (b : Bool). elim b [ true ↦ first_failing f (n - (i + 1)) (suc i) | false ↦ Some i ]) q ∙ ap (λ x. first_failing f (n - (i + 1)) x) s
-
-  pub fails_nowhere : (n i : ℕ) → n ≤ i → first_failing f (n - i) i ≡ None
-  fails_nowhere n i l = let e : n - i ≡ 0 = omega arith in ap (λ x. first_failing f x i) e
-
--- ── one criterion ──
+-- ── what summaries tell ──
 
 ltb_cut : (d : ℕ) → ltb (min ages d) ages ≡ ltb d ages
-ltb_cut d = go (ltb d ages) refl
-  where
-    go : (b : Bool) → ltb d ages ≡ b → ltb (min ages d) ages ≡ b
-    go true q = lt-ltb (min ages d) ages (omega (arith, ltb-true d ages q))
-    go false q = le-ltb (min ages d) ages (omega (arith, ltb-false d ages q))
+ltb_cut d = grind (arith, nat_tests)
 
 leb_cut : (n : ℕ) → leb (min (suc most_moves) n) most_moves ≡ leb n most_moves
-leb_cut n = go (leb n most_moves) refl
-  where
-    go : (b : Bool) → leb n most_moves ≡ b → leb (min (suc most_moves) n) most_moves ≡ b
-    go true q = le-leb (min (suc most_moves) n) most_moves (omega (arith, leb-true n most_moves q))
-    go false q = lt-leb (min (suc most_moves) n) most_moves (omega (arith, leb-false n most_moves q))
+leb_cut n = grind (arith, nat_tests)
 
--- what a summary tells is what the place has
-pub meets_wanted : (c : Criterion) (ps : List Place) (ss : List Summary) → Enough c ps ss → (i : ℕ) → i < length ps → meets c (length ps) (row ps i) (get_or ss i unknown) ≡ wanted c ps i
-meets_wanted Inside ps ss h i l = refl
-meets_wanted ByAction ps ss h i l = refl
-meets_wanted Guarded ps ss h i l = ap (λ (x : Summary). x.guarded) (h i l)
-meets_wanted Shallow ps ss h i l = ap (λ (x : Summary). ltb x.depth ages) (h i l) ∙ ltb_cut (depth_of ps i)
-meets_wanted FewMoves ps ss h i l = ap (λ (x : Summary). leb x.moves most_moves) (h i l) ∙ leb_cut (length (moves_of ps i))
+-- summaries of the places of a module, and of no others
+record Kept (ps : List Place) (own : List Summary) : Type 0 where
+  as_many : length own ≡ length ps
+  told : Summarizes ps (length ps) own
 
-module _ (c : Criterion) (ps : List Place) (m : ℕ) where
-  abbrev pub failing : Option ℕ
-  failing = first_failing (wanted c ps) (length ps) 0
+kept : (ps : List Place) (ss : List Summary) → length ps ≤ length ss → Summarizes ps (length ps) ss → Kept ps (take (length ps) ss)
+kept ps ss l h = record { as_many = length-take-le (length ps) ss l; told = λ i m. get_or-take (length ps) ss i unknown m ∙ h i m }
 
-  pub refused_at : (i : ℕ) (e : RowsFault) → failing ≡ Some i → e ≡ fault_of c m i → Err e ≡ verdict_of (trial c ps m None)
-  refused_at i e q r = ap (λ x. Err x) r ∙ ap (λ o. verdict_of (unless_at o (fault_of c m) None)) (sym q)
+module _ (ps : List Place) where
+  outside : position (λ p. not (inside (length ps) p)) ps ≡ first_failing (λ i. inside (length ps) (row ps i)) (length ps) 0
+  outside = first (λ p. not (inside (length ps) p)) (λ i. inside (length ps) (row ps i)) Nil ps (length ps) refl (λ i l. refl)
 
-  pub met : failing ≡ None → Ok tt ≡ verdict_of (trial c ps m None)
-  met q = ap (λ o. verdict_of (unless_at o (fault_of c m) None)) (sym q)
+  no_action : position (λ p. not (by_action p)) ps ≡ first_failing (λ i. by_action (row ps i)) (length ps) 0
+  no_action = first (λ p. not (by_action p)) (λ i. by_action (row ps i)) Nil ps (length ps) refl (λ i l. refl)
 
-  -- what one verdict says of a trial with more behind it
-  pub goes_on : (rest : Option RowsFault) → Ok tt ≡ verdict_of (trial c ps m None) → (failing ≡ None) × (trial c ps m rest ≡ rest)
-  goes_on rest h = go failing refl h
-    where
-      go : (o : Option ℕ) → failing ≡ o → Ok tt ≡ verdict_of (unless_at o (fault_of c m) None) → (o ≡ None) × (unless_at o (fault_of c m) rest ≡ rest)
-      go None q k = (refl, refl)
-      go (Some i) q k = let z : ◌≡◌ {A = ℕ} 0 1 = cc in absurd (omega arith)
+  module _ (own : List Summary) (k : Kept ps own) where
+    unguarded : position (λ (s : Summary). not s.guarded) own ≡ first_failing (guarded ps) (length ps) 0
+    unguarded = first (λ (s : Summary). not s.guarded) (guarded ps) unknown own (length ps) k.as_many (λ i l. ap (λ (s : Summary). not s.guarded) (k.told i l))
 
-  pub stops : (rest : Option RowsFault) (e : RowsFault) → Err e ≡ verdict_of (trial c ps m None) → trial c ps m rest ≡ Some e
-  stops rest e h = go failing h
-    where
-      go : (o : Option ℕ) → Err e ≡ verdict_of (unless_at o (fault_of c m) None) → unless_at o (fault_of c m) rest ≡ Some e
-      go None k = let z : ◌≡◌ {A = ℕ} 0 1 = cc in absurd (omega arith)
-      go (Some i) k = let z : fault_of c m i ≡ e = cc in ap (λ x. Some x) z
+    deep : position (λ (s : Summary). not (ltb s.depth ages)) own ≡ first_failing (λ i. ltb (depth_of ps i) ages) (length ps) 0
+    deep = first (λ (s : Summary). not (ltb s.depth ages)) (λ i. ltb (depth_of ps i) ages) unknown own (length ps) k.as_many (λ i l. ap (λ (s : Summary). not (ltb s.depth ages)) (k.told i l) ∙ ap not (ltb_cut (depth_of ps i)))
 
--- ── all criteria ──
+    rich : position (λ (s : Summary). not (leb s.moves most_moves)) own ≡ first_failing (λ i. leb (length (moves_of ps i)) most_moves) (length ps) 0
+    rich = first (λ (s : Summary). not (leb s.moves most_moves)) (λ i. leb (length (moves_of ps i)) most_moves) unknown own (length ps) k.as_many (λ i l. ap (λ (s : Summary). not (leb s.moves most_moves)) (k.told i l) ∙ ap not (leb_cut (length (moves_of ps i))))
+
+-- ── one trial after the other ──
 
 module _ (ps : List Place) (m : ℕ) where
-  abbrev verdict : Criterion → Result (Unit {0}) RowsFault
-  verdict c = verdict_of (trial c ps m None)
+  pub all_inside : None ≡ position (λ p. not (inside (length ps) p)) ps → AllInside ps
+  all_inside q i l = none_fails (λ j. inside (length ps) (row ps j)) (length ps) 0 (sym (q ∙ outside ps)) i (omega arith) (omega arith)
 
-  pub all_inside : Ok tt ≡ verdict Inside → AllInside ps
-  all_inside h i l = none_fails (wanted Inside ps) (length ps) 0 (goes_on Inside ps m None h).0 i (omega arith) (omega arith)
-
-  -- where the trials go on to, so far
-  after_inside : Ok tt ≡ verdict Inside → places_fault ps m ≡ trial ByAction ps m (trial Guarded ps m (trial Shallow ps m (trial FewMoves ps m None)))
+  pub by_rows : (a b : Option ℕ) → a ≡ position (λ p. not (inside (length ps) p)) ps → b ≡ position (λ p. not (by_action p)) ps → places_fault ps m ≡ unless_at a (Outside m) (unless_at b (NoAction m) (try_each ps m (guarded ps) (Unguarded m) (try_each ps m (λ i. ltb (depth_of ps i) ages) (Deep m) (try_each ps m (λ i. leb (length (moves_of ps i)) most_moves) (ManyMoves m) None))))
   unfolding places_fault
-  after_inside h = (goes_on Inside ps m _ h).1
+  by_rows a b p q = rw (p ∙ outside ps, q ∙ no_action ps)
 
-  after_actions : Ok tt ≡ verdict Inside → Ok tt ≡ verdict ByAction → places_fault ps m ≡ trial Guarded ps m (trial Shallow ps m (trial FewMoves ps m None))
-  after_actions h k = after_inside h ∙ (goes_on ByAction ps m _ k).1
-
-  after_guarded : Ok tt ≡ verdict Inside → Ok tt ≡ verdict ByAction → Ok tt ≡ verdict Guarded → places_fault ps m ≡ trial Shallow ps m (trial FewMoves ps m None)
-  after_guarded h k g = after_actions h k ∙ (goes_on Guarded ps m _ g).1
-
-  after_shallow : Ok tt ≡ verdict Inside → Ok tt ≡ verdict ByAction → Ok tt ≡ verdict Guarded → Ok tt ≡ verdict Shallow → places_fault ps m ≡ trial FewMoves ps m None
-  after_shallow h k g s = after_guarded h k g ∙ (goes_on Shallow ps m _ s).1
-
-  pub no_fault : Ok tt ≡ verdict Inside → Ok tt ≡ verdict ByAction → Ok tt ≡ verdict Guarded → Ok tt ≡ verdict Shallow → Ok tt ≡ verdict FewMoves → places_fault ps m ≡ None
-  no_fault h k g s f = after_shallow h k g s ∙ (goes_on FewMoves ps m _ f).1
-
-  -- what `?` hands on is the fault that stopped the trials
-  module _ (e : RowsFault) (r : Result (List Summary) RowsFault) (same : IsErrAnd r (λ x. x ≡ e)) where
-    handed_on : places_fault ps m ≡ Some e → TriedPlaces ps m r
-    handed_on h = let p = err_from_is_err_and r same in subst (λ (x : Result (List Summary) RowsFault). TriedPlaces ps m x) (sym p.1) (h ∙ ap (λ (x : RowsFault). Some x) (sym p.2))
-
-    pub stopped_outside : Err e ≡ verdict Inside → TriedPlaces ps m r
-    unfolding places_fault
-    stopped_outside q = handed_on (stops Inside ps m _ e q)
-
-    pub stopped_no_action : Ok tt ≡ verdict Inside → Err e ≡ verdict ByAction → TriedPlaces ps m r
-    stopped_no_action h q = handed_on (after_inside h ∙ stops ByAction ps m _ e q)
-
-    pub stopped_unguarded : Ok tt ≡ verdict Inside → Ok tt ≡ verdict ByAction → Err e ≡ verdict Guarded → TriedPlaces ps m r
-    stopped_unguarded h k q = handed_on (after_actions h k ∙ stops Guarded ps m _ e q)
-
-    pub stopped_deep : Ok tt ≡ verdict Inside → Ok tt ≡ verdict ByAction → Ok tt ≡ verdict Guarded → Err e ≡ verdict Shallow → TriedPlaces ps m r
-    stopped_deep h k g q = handed_on (after_guarded h k g ∙ stops Shallow ps m _ e q)
-
-    pub stopped_many : Ok tt ≡ verdict Inside → Ok tt ≡ verdict ByAction → Ok tt ≡ verdict Guarded → Ok tt ≡ verdict Shallow → Err e ≡ verdict FewMoves → TriedPlaces ps m r
-    stopped_many h k g s q = handed_on (after_shallow h k g s ∙ stops FewMoves ps m _ e q)
-
--- ── the module's row ──
-
-module _ (rows : List Place) (m : ℕ) (r : ModuleRow) where
-  abbrev after_places : Option RowsFault
-  after_places = places_fault (places_of rows r) m
-
-  abbrev after_start : Bool → Option RowsFault
-  after_start b = unless b (NoStart m) after_places
-
-  pub row_tried : (a b c d : Bool) → ltb m book_modules ≡ a → leb r.places book_places ≡ b → leb (r.first + r.places) (length rows) ≡ c → ltb r.start r.places ≡ d → module_fault rows m r ≡ unless a (ManyModules m) (unless b (ManyPlaces m) (unless c (BeyondRows m) (unless d (NoStart m) after_places)))
-  unfolding module_fault
-  row_tried a b c d p q s t =
-      ap (λ x. unless x (ManyModules m) (unless (leb r.places book_places) (ManyPlaces m) (unless (leb (r.first + r.places) (length rows)) (BeyondRows m) (after_start (ltb r.start r.places))))) p
-      ∙ ap (λ x. unless a (ManyModules m) (unless x (ManyPlaces m) (unless (leb (r.first + r.places) (length rows)) (BeyondRows m) (after_start (ltb r.start r.places))))) q
-      ∙ ap (λ x. unless a (ManyModules m) (unless b (ManyPlaces m) (unless x (BeyondRows m) (after_start (ltb r.start r.places))))) s
-      ∙ ap (λ x. unless a (ManyModules m) (unless b (ManyPlaces m) (unless c (BeyondRows m) (after_start x)))) t
-
-  pub places_tried : (ps : List Place) (o : Result (List Summary) RowsFault) → ps ≡ places_of rows r → module_fault rows m r ≡ places_fault (places_of rows r) m → TriedPlaces ps m o → Tried rows m r o
-  places_tried ps (Ok ss) e q t = (q ∙ ap (λ x. places_fault x m) (sym e) ∙ t.0, subst (λ x. Summarizes x (length x) ss) e t.1, t.2)
-  places_tried ps (Err x) e q t = q ∙ ap (λ y. places_fault y m) (sym e) ∙ t
+  pub by_all : (ss : List Summary) → length ps ≤ book_places → length ss ≡ book_places → Summarizes ps (length ps) ss → (a b c d e : Option ℕ) → a ≡ position (λ p. not (inside (length ps) p)) ps → b ≡ position (λ p. not (by_action p)) ps → c ≡ position (λ (s : Summary). not s.guarded) (take (length ps) ss) → d ≡ position (λ (s : Summary). not (ltb s.depth ages)) (take (length ps) ss) → e ≡ position (λ (s : Summary). not (leb s.moves most_moves)) (take (length ps) ss) → places_fault ps m ≡ unless_at a (Outside m) (unless_at b (NoAction m) (unless_at c (Unguarded m) (unless_at d (Deep m) (unless_at e (ManyMoves m) None))))
+  unfolding places_fault
+  by_all ss few full told a b c d e p q r s t =
+      let k : Kept ps (take (length ps) ss) = kept ps ss (omega arith) told in
+      rw (p ∙ outside ps, q ∙ no_action ps, r ∙ unguarded ps (take (length ps) ss) k, s ∙ deep ps (take (length ps) ss) k, t ∙ rich ps (take (length ps) ss) k)

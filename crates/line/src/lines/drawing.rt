@@ -25,7 +25,7 @@ fn port_set(hidden: &[u8]) -> Option<ActionSet>
 {
     let mut set = ActionSet::empty();
     for port in hidden {
-        if *port < 1 || *port > 31 {
+        if !(1..=31).contains(port) {
             return None;
         }
         set.insert(*port as i8);
@@ -63,10 +63,12 @@ pub fn draw<C: Catalogue>(
     let Some(hidden) = port_set(hidden) else {
         return Err(DrawFault::HiddenPort);
     };
-    let renaming = Renaming::identity();
-    let mut held = [Slot { holds: 0, renaming }; MOST_SLOTS];
-    for i in 0..slots.len() {
-        let plan = slots[i];
+    let blank = Slot {
+        holds: 0,
+        renaming: Renaming::identity(),
+    };
+    let mut held = [blank; MOST_SLOTS];
+    for (i, plan) in slots.iter().enumerate() {
         held[i] = fitted(catalogue, plan.holds, plan.entries)?;
     }
     Ok(Line {

@@ -25,19 +25,14 @@ impl Line {
         ensures table { table.new ≡ swap_table (C.Catalogue.meaning catalogue.now) (line_of self.old) slot new table.old }
         ensures promise { NoSwapSlows (C.Catalogue.meaning catalogue.now) (line_of self.old) (line_of self.new) }
     {
-        if slot >= self.count {
+        let Some(was) = self.slot(slot) else {
             return Err(SwapFault::UnknownSlot);
-        }
-        let was = self.slots[slot];
+        };
         let verdict = compare(catalogue, new, was.holds, table)?;
         if verdict.rank != 0 {
             return Err(SwapFault::Slower(verdict.rank));
         }
-        let renaming = was.renaming;
-        self.slots[slot] = Slot {
-            holds: new,
-            renaming,
-        };
+        self.slots[slot] = Slot { holds: new, ..was };
         Ok(verdict.pairs)
     }
 }

@@ -1,12 +1,14 @@
 // What time does in a line.
-ghost use Rattle.std.specs.Prelude.{◌≡◌, not, ◌&&◌, length, ℤ, IfOk, nat_lt};
+ghost use Rattle.std.specs.Prelude.{◌≡◌, min, not, ◌&&◌, length, ℤ, IfOk, nat_lt, is_some};
+ghost use Rattle.std.specs.List.{list_all, zip};
+ghost use Rattle.line.specs.declared.lines.Slot.{Slot};
 ghost use Rattle.action.specs.Lists.{every};
 ghost use Rattle.action.specs.Sets.{has};
-ghost use Rattle.catalogue.specs.Catalogue.{module_in, codes as codes_of};
+ghost use Rattle.catalogue.specs.Catalogue.{module_in, state_in, codes as codes_of};
 ghost use Rattle.line_rules.specs.Line.{hides};
 ghost use Rattle.line_rules.specs.Time.{gathers, slot_ticks, knows, stands, time_answer, Tells};
 ghost use Rattle.line_rules.specs.Cases.{Worked};
-ghost use Rattle.line.specs.Meaning.{line_of};
+ghost use Rattle.line.specs.Meaning.{in_use, line_of};
 
 use super::Line;
 use action::ActionSet;
@@ -17,64 +19,53 @@ use line_rules::{TimeAnswer, TimeFault};
 fn has_code<C: Catalogue>(catalogue: &C, part: usize, code: u32) -> bool
     ensures { result ≡ nat_lt code (codes_of (module_in (C.Catalogue.meaning catalogue.now) part)) }
 {
-    match catalogue.codes(part) {
-        Some(codes) => code < codes,
-        None => false,
-    }
+    catalogue.codes(part).is_some_and(|codes| code < codes)
 }
 
 impl Line {
     // Whether the catalogue has the module of every slot.
     fn is_known<C: Catalogue>(&self, catalogue: &C) -> bool
-        ensures { result ≡ every (length (line_of self.now).slots) (knows (C.Catalogue.meaning catalogue.now) (line_of self.now)) }
+        ensures { result ≡ list_all (λ (x : Slot). nat_lt x.holds (length (C.Catalogue.meaning catalogue.now))) (in_use self.now) }
     {
         let modules = catalogue.modules();
-        for i in 0..self.count {
-            if self.slots[i].holds >= modules {
-                return false;
-            }
-        }
-        true
+        self.held().iter().all(|slot| slot.holds < modules)
+    }
+
+    // Whether each code is one of its slot's module.
+    fn has_codes<C: Catalogue>(&self, catalogue: &C, state: &[u32]) -> bool
+        ensures { result ≡ list_all (λ p. nat_lt p.1 (codes_of (module_in (C.Catalogue.meaning catalogue.now) p.0.holds))) (zip (in_use self.now) state.now) }
+    {
+        self.held()
+            .iter()
+            .zip(state)
+            .all(|(slot, code)| has_code(catalogue, slot.holds, *code))
     }
 
     // Whether a list of codes is a state of the line.
     fn stands<C: Catalogue>(&self, catalogue: &C, state: &[u32]) -> bool
         ensures { result ≡ stands (C.Catalogue.meaning catalogue.now) (line_of self.now) state.now }
     {
-        if state.len() != self.count {
-            return false;
-        }
-        for i in 0..self.count {
-            if !has_code(catalogue, self.slots[i].holds, state[i]) {
-                return false;
-            }
-        }
-        true
+        state.len() == self.count && self.has_codes(catalogue, state)
     }
 
-    // Whether every slot ticks.
+    // Whether every slot that has a code ticks.
     fn all_tick<C: Catalogue>(&self, catalogue: &C, state: &[u32]) -> bool
-        requires { length state.now ≡ self.now.count }
-        ensures { result ≡ every (length (line_of self.now).slots) (slot_ticks (C.Catalogue.meaning catalogue.now) (line_of self.now) state.now) }
+        ensures { result ≡ list_all (λ p. is_some (state_in (C.Catalogue.meaning catalogue.now) p.0.holds p.1).tick) (zip (in_use self.now) state.now) }
     {
-        for i in 0..self.count {
-            if catalogue.tick(self.slots[i].holds, state[i]).is_none() {
-                return false;
-            }
-        }
-        true
+        self.held()
+            .iter()
+            .zip(state)
+            .all(|(slot, code)| catalogue.tick(slot.holds, *code).is_some())
     }
 
-    // What the slots urge, and the internal event where two different slots hold opposite actions. A slot is held
+    // What the slots that have codes urge, and the internal event where two different slots hold opposite actions. A slot is held
     // against those before it, so that the two actions of a port never meet within one slot.
     fn gathered<C: Catalogue>(&self, catalogue: &C, state: &[u32]) -> ActionSet
-        requires { length state.now ≡ self.now.count }
-        ensures { (a : ℤ) → has result a ≡ gathers (C.Catalogue.meaning catalogue.now) (line_of self.now) state.now (length (line_of self.now).slots) a }
+        ensures { (a : ℤ) → has result a ≡ gathers (C.Catalogue.meaning catalogue.now) (line_of self.now) state.now (min self.now.count (length state.now)) a }
     {
         let mut all = ActionSet::empty();
-        for i in 0..self.count {
-            let slot = self.slots[i];
-            let here = slot.renaming.image(catalogue.urgent(slot.holds, state[i]));
+        for (slot, code) in self.held().iter().zip(state) {
+            let here = slot.renaming.image(catalogue.urgent(slot.holds, *code));
             if all.meets_opposites(here) {
                 all.insert(0);
             }
@@ -88,10 +79,7 @@ impl Line {
         ensures { result ≡ hides (line_of self.now) action }
     {
         let port = action.unsigned_abs();
-        if port > 31 {
-            return false;
-        }
-        self.hidden.contains(port as i8)
+        port <= 31 && self.hidden.contains(port as i8)
     }
 
     // The actions of a set that are not hidden.

@@ -1,6 +1,6 @@
 use Rattle.std.proofs.Common.{ap}
 use Rattle.rows.specs.Opening.{verdict_of}
-use Rattle.book.proofs.Modules.{fault_here, fault_later, fault_none, handed_on}
+use Rattle.book.proofs.Modules.{fault_here, fault_none, handed_on}
 use Rattle.book.proofs.opening.try_rows.Goals as goal
 
 pub returns-in_err-try_module : goal.returns-in_err-try_module
@@ -9,9 +9,6 @@ returns-in_err-try_module c =
     let ms = c.args.modules.now in
     let e = c.in_err-try_module.field-0.0 in
     handed_on rows ms e c.from_residual.result c.from_residual.ensures.1 (fault_here rows ms c.loop-part.part e c.loop-part-test.true c.loop-part.invariant c.in_err-try_module.ensures)
-
-pub loop-part-preserved : goal.loop-part-preserved
-loop-part-preserved c = fault_later c.args.places.now c.args.modules.now c.loop-part.part c.loop-part-test.true c.loop-part.invariant c.in_ok-try_module.ensures.0
 
 pub returns : goal.returns
 returns c = ap verdict_of (fault_none c.args.places.now c.args.modules.now c.loop-part.part c.loop-part-test.false c.loop-part.invariant)

@@ -1,11 +1,6 @@
-use Rattle.std.proofs.Common.{Option, sym, ap, ◌∙◌, arith}
-use Rattle.std.specs.Option.{option_map}
-use Rattle.catalogue.specs.Catalogue.{Module, start_of}
-use Rattle.book.proofs.Answering.{none_found, its_start_small, its_start}
+use Rattle.std.proofs.Common.{arith}
+use Rattle.book.proofs.Answering.{its_start_small, its_start}
 use Rattle.book.proofs.questions.BookCatalogue.start.Goals as goal
-
-pub returns-in_err-equations : goal.returns-in_err-equations
-returns-in_err-equations c = c.from_residual.ensures ∙ ap (λ (o : Option Module). option_map start_of o) (sym (none_found c.args.self.now.places.now c.args.self.now.modules.now c.args.part c.in_err-equations.ensures))
 
 pub overflow_cast-result : goal.overflow_cast-result
 overflow_cast-result c = let n = its_start_small c.args.self.now.places.now c.args.self.now.modules.now c.args.part c.in_ok-equations.equations c.in_ok-equations.ensures in omega arith

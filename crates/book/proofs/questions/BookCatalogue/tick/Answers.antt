@@ -1,15 +1,7 @@
-use Rattle.std.proofs.Common.{◌≡◌, length, sym, ap, ◌∙◌, rules}
+use Rattle.std.proofs.Common.{ap, ◌∙◌}
 use Rattle.catalogue.specs.Catalogue.{State}
-use Rattle.book.proofs.Answering.{nowhere_found, its_state, its_table}
+use Rattle.book.proofs.Answering.{its_state}
 use Rattle.book.proofs.questions.BookCatalogue.tick.Goals as goal
 
-pub returns-in_err-equations : goal.returns-in_err-equations
-returns-in_err-equations c = c.from_residual.ensures ∙ ap (λ (x : State). x.tick) (sym (nowhere_found c.args.self.now.places.now c.args.self.now.modules.now c.args.part c.in_err-equations.ensures c.args.code))
-
-pub tick_in-requires : goal.tick_in-requires
-tick_in-requires c =
-    let rows : length c.args.self.now.table ≡ 64 = search rules in
-    its_table c.args.self.now.places.now c.args.self.now.modules.now c.args.part c.in_ok-equations.equations c.in_ok-equations.ensures c.args.self.now.table c.args.self.now.verdict rows c.args.self.now.tried c.args.self.now.depths c.args.self.now.counts
-
 pub returns : goal.returns
-returns c = c.tick_in.ensures ∙ ap (λ (x : State). x.tick) (its_state c.args.self.now.places.now c.args.self.now.modules.now c.args.part c.in_ok-equations.equations c.in_ok-equations.ensures c.args.code)
+returns c = c.tick.ensures ∙ ap (λ (x : State). x.tick) (its_state c.args.self.now.places.now c.args.self.now.modules.now c.args.part c.in_ok-equations.field-0 c.in_ok-equations.ensures c.args.code)

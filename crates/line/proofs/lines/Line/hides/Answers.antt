@@ -1,6 +1,6 @@
 use Rattle.std.proofs.Common.{◌≡◌, ℕ, ℤ, pos, nat_abs, sym, ap, ◌∙◌, arith, w8, SFits, to_z, of_z}
-use Rattle.std.proofs.lemmas.Int.{to_z-of_z, to_z_pos}
-use Rattle.action.specs.Sets.{has}
+use Rattle.std.proofs.lemmas.Int.{to_z-of_z}
+use Rattle.std.proofs.lemmas.Bool.{lt-leb}
 use Rattle.action.proofs.Sets.{has_far}
 use Rattle.line.proofs.lines.Line.hides.Goals as goal
 
@@ -8,12 +8,7 @@ use Rattle.line.proofs.lines.Line.hides.Goals as goal
 port : (a : ℤ) (p : ℕ) → SFits w8 a → p ≡ nat_abs (to_z w8 (of_z w8 a)) → p ≡ nat_abs a
 port a p f e = e ∙ ap nat_abs (to_z-of_z w8 a f)
 
-pub returns-then-port-gt31 : goal.returns-then-port-gt31
-returns-then-port-gt31 c =
+pub returns-else-port-le31 : goal.returns-else-port-le31
+returns-else-port-le31 c =
     let is = port c.args.action c.unsigned_abs-port.result c.ranges.action c.unsigned_abs-port.ensures.value in
-    sym (has_far c.args.self.now.hidden (pos (nat_abs c.args.action)) (omega (arith, is, c.if-port-gt31.true)))
-
-pub returns : goal.returns
-returns c =
-    let is = port c.args.action c.unsigned_abs-port.result c.ranges.action c.unsigned_abs-port.ensures.value in
-    c.contains.ensures ∙ ap (has c.args.self.now.hidden) (to_z_pos w8 c.unsigned_abs-port.result (omega (arith, c.if-port-gt31.false)) ∙ ap pos is)
+    lt-leb c.unsigned_abs-port.result 31 c.if-port-le31.false ∙ sym (has_far c.args.self.now.hidden (pos (nat_abs c.args.action)) (omega (arith, is, c.if-port-le31.false)))

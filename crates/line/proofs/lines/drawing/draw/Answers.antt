@@ -1,4 +1,4 @@
-use Rattle.std.proofs.Common.{◌≡◌, false, List, [], map, length, take, pos, Ok, Err, sym, refl, ap, ◌∙◌, subst, inl, inr, arith}
+use Rattle.std.proofs.Common.{◌≡◌, false, List, [], map, length, take, pos, Ok, Err, sym, ap, ◌∙◌, subst, inl, inr, arith}
 use Rattle.std.proofs.lemmas.Result.{err_from_is_err_and}
 use Rattle.std.proofs.lemmas.Bool.{eqb-true}
 use Rattle.action.specs.declared.set.ActionSet.{ActionSet}
@@ -10,7 +10,7 @@ use Rattle.line_rules.proofs.Drawn.{draws, no_count, no_port, by_slots, ports_op
 use Rattle.line_rules.proofs.Example.{can_be_met}
 use Rattle.line.specs.declared.lines.drawing.SlotPlan.{SlotPlan}
 use Rattle.line.specs.Meaning.{slot_of, plans, Fitting}
-use Rattle.line.proofs.Planning.{no_slots, slot_more, slot_wrong, slot_all, plan_at, plans_long, not_none, draws_so}
+use Rattle.line.proofs.Planning.{slot_more, slot_wrong, slot_all, plan_at, plans_long, not_none, draws_so}
 use Rattle.line.proofs.lines.drawing.draw.Goals as goal
 
 -- what is read where there is no plan
@@ -40,9 +40,6 @@ returns-in_default g c =
     let some = not_none (length ps) (sym c.is_empty.ensures ∙ c.if-is_empty.false) in
     let few = c.if-slots-gt-MOST_SLOTS.false in
     record { answer = no_port ms (plans ps) hidden (omega arith) (omega arith) c.in_default.ensures; law = draws ms (plans ps) hidden; drawn = tt; promise = tt; possible = can_be_met }
-
-pub loop-i-init : goal.loop-i-init
-loop-i-init g c = no_slots (g.C.Catalogue.meaning c.args.catalogue.now) (plans c.args.slots.now) _ refl
 
 pub returns-in_err-held : goal.returns-in_err-held
 returns-in_err-held g c =

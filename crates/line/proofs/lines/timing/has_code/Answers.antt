@@ -1,9 +1,8 @@
-use Rattle.std.proofs.Common.{ltb, ap}
-use Rattle.line.proofs.Codes.{codes_some, codes_none}
+use Rattle.std.proofs.Common.{◌≡◌, false, ltb, MatchOption, rules}
+use Rattle.line.proofs.Codes.{code_told}
 use Rattle.line.proofs.lines.timing.has_code.Goals as goal
 
-pub returns-in-Some : goal.returns-in-Some
-returns-in-Some g c = ap (ltb c.args.code) (codes_some (g.C.Catalogue.meaning c.args.catalogue.now) c.args.part c.in-Some.codes c.in-Some.ensures)
-
-pub returns-in-None : goal.returns-in-None
-returns-in-None g c = codes_none (g.C.Catalogue.meaning c.args.catalogue.now) c.args.part c.args.code c.in-None.ensures
+pub returns : goal.returns
+returns g c =
+    let told : MatchOption c.codes.result (c.is_some_and.result ≡ false) (λ n. c.is_some_and.result ≡ ltb c.args.code n) = search rules in
+    code_told (g.C.Catalogue.meaning c.args.catalogue.now) c.args.part c.args.code c.codes.result c.is_some_and.result c.codes.ensures told
