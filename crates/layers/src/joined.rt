@@ -1,4 +1,4 @@
-// Two catalogues as one: the modules of the front, then those of the back, cut after 256.
+// Two catalogues as one: the modules of the front, then those of the back, as many as a catalogue may have.
 ghost use Rattle.std.specs.Prelude.{◌≡◌};
 ghost use Rattle.catalogue.specs.Layers.{joined};
 ghost use Rattle.catalogue.proofs.Layers.{joined_lawful};
@@ -7,6 +7,9 @@ ghost use Rattle.layers.specs.Places.{Placed};
 
 use action::ActionSet;
 use catalogue::{Catalogue, Move};
+
+// As many modules may a catalogue have.
+const MOST_MODULES: usize = 256;
 
 #[derive(Drop)]
 pub struct Joined<A, B> {
@@ -19,7 +22,6 @@ pub struct Joined<A, B> {
 enum Place {
     Front(usize),
     Back(usize),
-    Nowhere,
 }
 
 impl<A: Catalogue, B: Catalogue> Joined<A, B> {
@@ -30,17 +32,18 @@ impl<A: Catalogue, B: Catalogue> Joined<A, B> {
         Joined { front, back }
     }
 
-    fn place(&self, part: usize) -> Place
+    // The place of a module, if it is there.
+    fn place(&self, part: usize) -> Option<Place>
         ensures { Placed (A.Catalogue.meaning self.now.front) (B.Catalogue.meaning self.now.back) part result }
     {
-        if part >= 256 {
-            return Place::Nowhere;
+        if part >= MOST_MODULES {
+            return None;
         }
         let front = self.front.modules();
         if part < front {
-            Place::Front(part)
+            Some(Place::Front(part))
         } else {
-            Place::Back(part - front)
+            Some(Place::Back(part - front))
         }
     }
 }
@@ -51,47 +54,42 @@ impl<A: Catalogue, B: Catalogue> Catalogue for Joined<A, B> {
     ghost lawful = { λ c. joined_lawful (A.Catalogue.meaning c.front) (B.Catalogue.meaning c.back) (A.Catalogue.lawful c.front) (B.Catalogue.lawful c.back) };
 
     fn modules(&self) -> usize {
-        let all = self.front.modules() + self.back.modules();
-        if all > 256 { 256 } else { all }
+        (self.front.modules() + self.back.modules()).min(MOST_MODULES)
     }
 
     fn codes(&self, part: usize) -> Option<u32> {
-        match self.place(part) {
+        match self.place(part)? {
             Place::Front(number) => self.front.codes(number),
             Place::Back(number) => self.back.codes(number),
-            Place::Nowhere => None,
         }
     }
 
     fn start(&self, part: usize) -> Option<u32> {
-        match self.place(part) {
+        match self.place(part)? {
             Place::Front(number) => self.front.start(number),
             Place::Back(number) => self.back.start(number),
-            Place::Nowhere => None,
         }
     }
 
     fn move_at(&self, part: usize, code: u32, number: usize) -> Option<Move> {
-        match self.place(part) {
+        match self.place(part)? {
             Place::Front(at) => self.front.move_at(at, code, number),
             Place::Back(at) => self.back.move_at(at, code, number),
-            Place::Nowhere => None,
         }
     }
 
     fn urgent(&self, part: usize, code: u32) -> ActionSet {
         match self.place(part) {
-            Place::Front(number) => self.front.urgent(number, code),
-            Place::Back(number) => self.back.urgent(number, code),
-            Place::Nowhere => ActionSet::empty(),
+            Some(Place::Front(number)) => self.front.urgent(number, code),
+            Some(Place::Back(number)) => self.back.urgent(number, code),
+            None => ActionSet::empty(),
         }
     }
 
     fn tick(&self, part: usize, code: u32) -> Option<u32> {
-        match self.place(part) {
+        match self.place(part)? {
             Place::Front(number) => self.front.tick(number, code),
             Place::Back(number) => self.back.tick(number, code),
-            Place::Nowhere => None,
         }
     }
 }

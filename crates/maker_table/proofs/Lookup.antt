@@ -1,5 +1,5 @@
 -- Finding a record by the listed offsets. Assumes nothing.
-use Rattle.std.proofs.Common.{◌≡◌, ℕ, zero, suc, ◌+◌, ◌*◌, ◌<◌, ◌≤◌, true, List, [], ◌∷◌, ◌++◌, map, length, get_or, ℤ, Some, None, vec_items, vec_len, Option, sym, refl, ap, ◌∙◌, subst, arith}
+use Rattle.std.proofs.Common.{◌≡◌, ℕ, zero, suc, ◌+◌, ◌*◌, ◌<◌, ◌≤◌, true, List, [], ◌∷◌, ◌++◌, map, length, get_or, ℤ, Some, None, vec_items, Option, sym, refl, ap, ◌∙◌, subst, arith}
 use Rattle.std.specs.Option.{option_map}
 use Rattle.std.proofs.lemmas.List.{append_assoc, length-append, length-map, get_or-append-add, get_or_append_left, get_or_read_under}
 use Rattle.catalogue.specs.declared.Move.{Move}
@@ -8,12 +8,13 @@ use Rattle.catalogue.specs.Catalogue.{State, Module, nowhere, absent, state, sta
 use Rattle.maker_table.specs.declared.index.ModulePlace.{ModulePlace}
 use Rattle.maker_table.specs.declared.table.Table.{Table}
 use Rattle.maker_table.specs.Table.{written}
-use Rattle.table_format.specs.Numbers.{pair}
+use Rattle.table_format.specs.Numbers.{pair, pair_in}
 use Rattle.table_format.specs.Records.{meant_move, meant_state, meant_module}
-use Rattle.table_format.specs.Reading.{after, offsets, codes_at, move_record, move_records, state_record, module_record, meaning}
+use Rattle.table_format.specs.Reading.{after, offsets, codes_at, Whole, move_record, move_records, state_record, module_record, meaning}
 use Rattle.table_format.specs.Taking.{state_fault, states_fault, module_fault, modules_fault, fault, taken}
-use Rattle.maker_table.specs.Index.{module_places, state_places, module_offset, state_offset_in, state_offset, Whole}
+use Rattle.maker_table.specs.Index.{module_places, state_places, module_offset, state_offset_in, state_offset}
 use Rattle.table_format.proofs.Faults.{then_l, then_r}
+use Rattle.table_format.proofs.Numbers.{pair_read}
 use Rattle.table_format.proofs.Taken.{taken_none}
 use Rattle.table_format.proofs.Fine.{StateFine, state_fine, ModuleFine, module_fine, fine}
 use Rattle.table_format.proofs.FromBytes.{count_offsets}
@@ -105,6 +106,10 @@ told_state b m c o e = ap (λ (x : Module). state x c) (get_d_found meant_module
     go None = refl
     go (Some i) = get_d_found meant_state (state_record b) nowhere (offsets b (codes_at b i) (i + 6)) c
 
+-- of a state whose record was found
+pub told_record : (t : Table) (m c : ℕ) (d : List ℕ) (s : ℕ) → d ≡ written t → state_offset (written t) m c ≡ Some s → state_in (meaning (written t)) m c ≡ meant_state (state_record d s)
+told_record t m c d s e h = told_state (written t) m c (Some s) (sym h) ∙ ap (λ z. meant_state (state_record z s)) (sym e)
+
 count_codes : (b : List ℕ) (i : ℕ) → codes (meant_module (module_record b i)) ≡ codes_at b i
 count_codes b i = length-map (module_record b i).states meant_state ∙ length-map (offsets b (codes_at b i) (i + 6)) (state_record b) ∙ count_offsets b (codes_at b i) (i + 6)
 
@@ -160,12 +165,36 @@ finding b m p ms ss t e f l q =
     let g = placed b m (taken_none b t) k in
     (k, subst (λ (z : List ℕ). Placed b i p z) (sym f) (subst (λ (z : ModulePlace). Placed b i z (state_places b (pair b 1) 3)) (sym r) g))
 
--- the same, of a table
-pub count_listed : (t : Table) → vec_len t.modules ≡ pair (written t) 1
-count_listed t = t.modules.ok.0 ∙ ap length t.placed ∙ count_places (written t) (pair (written t) 1) 3 0
+-- the same, of a table whose list of modules is ms
+pub count_listed : (t : Table) (ms : List ModulePlace) → ms ≡ vec_items t.index.modules → length ms ≡ pair (written t) 1
+count_listed t ms e = ap length (e ∙ t.placed) ∙ count_places (written t) (pair (written t) 1) 3 0
 
-pub placed_in : (t : Table) (m : ℕ) (p : ModulePlace) → m < vec_len t.modules → p ≡ get_or (vec_items t.modules) m p → (m < pair (written t) 1) × Placed (written t) (get_or (offsets (written t) (pair (written t) 1) 3) m 0) p (vec_items t.states)
-placed_in t m p l q = finding (written t) m p (vec_items t.modules) (vec_items t.states) t.fine t.placed t.listed (omega (arith, t.modules.ok.0)) q
+pub placed_in : (t : Table) (m : ℕ) (p : ModulePlace) (ms : List ModulePlace) → ms ≡ vec_items t.index.modules → m < length ms → p ≡ get_or ms m p → (m < pair (written t) 1) × Placed (written t) (get_or (offsets (written t) (pair (written t) 1) 3) m 0) p (vec_items t.index.states)
+placed_in t m p ms e l q = finding (written t) m p ms (vec_items t.index.states) t.fine (e ∙ t.placed) t.listed l q
+
+-- the module with number m of a table, whose place is p and which has n states
+pub record Seen (t : Table) (m n : ℕ) (p : ModulePlace) : Type 0 where
+  pub there : module_offset (written t) m ≡ Some (get_or (offsets (written t) (pair (written t) 1) 3) m 0)
+  pub count : n ≡ codes_at (written t) (get_or (offsets (written t) (pair (written t) 1) 3) m 0)
+  pub placed : Placed (written t) (get_or (offsets (written t) (pair (written t) 1) 3) m 0) p (vec_items t.index.states)
+
+pub seen : (t : Table) (m n : ℕ) (p : ModulePlace) (ms : List ModulePlace) (bs : List ℕ) → ms ≡ vec_items t.index.modules → m < length ms → p ≡ get_or ms m p → bs ≡ written t → Some n ≡ pair_in bs (p.at + 2) → Seen t m n p
+seen t m n p ms bs e l q v h =
+    let f = placed_in t m p ms e l q in
+    record {
+      there = module_some (written t) m f.0;
+      count = pair_read bs (p.at + 2) n h ∙ ap (λ z. pair z (p.at + 2)) v ∙ ap (codes_at (written t)) f.1.at_is;
+      placed = f.1;
+    }
+
+-- and the offset a of its state with number c, read in the list ss
+pub found_listed : (t : Table) (m c n : ℕ) (p : ModulePlace) (ss : List ℕ) (a : ℕ) → Seen t m n p → c < n → ss ≡ vec_items t.index.states → a ≡ get_or ss (p.first + c) a → state_offset (written t) m c ≡ Some a
+found_listed t m c n p ss a s l e q =
+    let b = written t in
+    let i = get_or (offsets b (pair b 1) 3) m 0 in
+    let k : c < codes_at b i = omega (arith, s.count) in
+    let r = get_or_read_under ss (p.first + c) (length ss) a 0 q (omega (arith, s.placed.there c k, ap length e)) refl in
+    state_some b m c i s.there k ∙ sym (ap Some (r ∙ ap (λ (z : List ℕ). get_or z (p.first + c) 0) e ∙ s.placed.listed c k))
 
 -- the move with number k
 pub nth_move : (b : List ℕ) (j s k : ℕ) → k < j → nth (map meant_move (move_records b j s)) k ≡ Some (meant_move (move_record b (s + 4 * k)))

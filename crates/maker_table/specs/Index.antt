@@ -1,7 +1,7 @@
 -- The offsets of a table's records, in lists. Assumes nothing.
-use Rattle.std.specs.Prelude.{ℕ, zero, suc, ◌+◌, ◌*◌, ◌≤◌, List, [], ◌∷◌, ◌++◌, length, Some, None, Option}
+use Rattle.std.specs.Prelude.{ℕ, zero, suc, ◌+◌, List, [], ◌∷◌, ◌++◌, Some, None, Option}
 use Rattle.action.specs.Lists.{nth}
-use Rattle.table_format.specs.Numbers.{byte, pair}
+use Rattle.table_format.specs.Numbers.{pair}
 use Rattle.table_format.specs.Reading.{after, offsets, codes_at}
 use Rattle.maker_table.specs.declared.index.ModulePlace.{ModulePlace}
 
@@ -28,7 +28,3 @@ state_offset_in b c (Some i) = nth (offsets b (codes_at b i) (i + 6)) c
 
 abbrev pub state_offset : List ℕ → ℕ → ℕ → Option ℕ
 state_offset b m c = state_offset_in b c (module_offset b m)
-
--- the record of the state at s lies in the bytes
-abbrev pub Whole : List ℕ → ℕ → Type 0
-Whole b s = s + 5 + 4 * byte b (s + 4) ≤ length b

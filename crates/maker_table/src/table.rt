@@ -4,7 +4,7 @@ ghost use Rattle.table_format.specs.Numbers.{pair};
 ghost use Rattle.table_format.specs.Taking.{taken};
 ghost use Rattle.maker_table.specs.Index.{module_places, state_places};
 
-use super::index::ModulePlace;
+use super::index::Index;
 
 mod asking;
 mod taking;
@@ -12,10 +12,8 @@ mod taking;
 #[derive(Drop)]
 pub struct Table {
     bytes: Vec<u8>,
-    modules: Vec<ModulePlace>,
-    // the offsets of all states' records, module after module
-    states: Vec<u32>,
+    index: Index,
     ghost fine: { taken bytes.items ≡ true },
-    ghost placed: { modules.items ≡ module_places bytes.items (pair bytes.items 1) 3 0 },
-    ghost listed: { states.items ≡ state_places bytes.items (pair bytes.items 1) 3 },
+    ghost placed: { index.modules.items ≡ module_places bytes.items (pair bytes.items 1) 3 0 },
+    ghost listed: { index.states.items ≡ state_places bytes.items (pair bytes.items 1) 3 },
 }

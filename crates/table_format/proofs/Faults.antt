@@ -1,11 +1,8 @@
 -- The first fault of several, as facts. Assumes nothing.
-use Rattle.std.proofs.Common.{◌≡◌, ℕ, ◌<◌, ◌≤◌, Bool, true, false, eqb, ltb, leb, is_some, Some, None, Option, refl, subst, arith}
+use Rattle.std.proofs.Common.{◌≡◌, ℕ, ◌<◌, ◌≤◌, Bool, true, false, eqb, ltb, leb, is_some, Some, None, Option, refl, subst}
 use Rattle.std.proofs.lemmas.Bool.{leb-true, ltb-true, eqb-true, le-leb, lt-ltb, eq-eqb}
 use Rattle.table_format.specs.declared.fault.TableFault.{TableFault}
 use Rattle.table_format.specs.Taking.{try, ◌▹◌, number, place}
-
-not_none : (f : TableFault) → ◌≡◌ {A = Option TableFault} (Some f) None → ⊥
-not_none f e = let z : ◌≡◌ {A = ℕ} 0 1 = cc in omega arith
 
 -- one after the other
 pub then_l : (f g : Option TableFault) → (f ▹ g) ≡ None → f ≡ None
@@ -14,7 +11,7 @@ then_l (Some f) g e = e
 
 pub then_r : (f g : Option TableFault) → (f ▹ g) ≡ None → g ≡ None
 then_r None g e = e
-then_r (Some f) g e = absurd (not_none f e)
+then_r (Some f) g e = cc
 
 pub then_i : (f g : Option TableFault) → f ≡ None → g ≡ None → (f ▹ g) ≡ None
 then_i None g e h = h
@@ -22,20 +19,28 @@ then_i (Some f) g e h = e
 
 pub none_then : (f g : Option TableFault) → f ≡ None → (f ▹ g) ≡ g
 none_then None g e = refl
-none_then (Some f) g e = absurd (not_none f e)
+none_then (Some f) g e = cc
 
 pub some_then : (f g : Option TableFault) (x : TableFault) → f ≡ Some x → (f ▹ g) ≡ Some x
-some_then None g x e = let z : ◌≡◌ {A = ℕ} 0 1 = cc in absurd (omega arith)
+some_then None g x e = cc
 some_then (Some f) g x e = e
+
+pub then_then : (f g h : Option TableFault) → ((f ▹ g) ▹ h) ≡ (f ▹ g ▹ h)
+then_then None g h = refl
+then_then (Some f) g h = refl
 
 -- one test
 pub try_none : (t : Bool) (f : TableFault) → try t f ≡ None → t ≡ true
 try_none true f e = refl
-try_none false f e = absurd (not_none f e)
+try_none false f e = cc
 
 pub none_try : (t : Bool) (f : TableFault) → t ≡ true → try t f ≡ None
 none_try true f e = refl
-none_try false f e = let z : ◌≡◌ {A = ℕ} 0 1 = cc in absurd (omega arith)
+none_try false f e = cc
+
+pub try_some : (t : Bool) (f : TableFault) → t ≡ false → try t f ≡ Some f
+try_some true f e = cc
+try_some false f e = refl
 
 module _ (x y : ℕ) (f : TableFault) where
   pub le_none : try (leb x y) f ≡ None → x ≤ y

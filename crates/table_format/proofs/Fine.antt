@@ -1,6 +1,6 @@
 -- What a part of a table without a fault says, and the other way round; and that a fault lies in the bytes, or at their end. Assumes nothing.
-use Rattle.std.proofs.Common.{◌≡◌, ℕ, zero, suc, ◌+◌, ◌*◌, ◌<◌, ◌≤◌, Bool, true, ◌&&◌, ◌||◌, eqb, ltb, leb, List, [], ◌∷◌, length, nat_abs, is_some, Some, None, Option, refl, arith}
-use Rattle.std.proofs.lemmas.Bool.{leb-true, le-leb, and_parts, and_from}
+use Rattle.std.proofs.Common.{◌≡◌, ℕ, zero, suc, ◌+◌, ◌*◌, ◌<◌, ◌≤◌, Bool, true, false, ◌&&◌, ◌||◌, eqb, ltb, leb, List, [], ◌∷◌, length, nat_abs, is_some, Some, None, Option, refl, ◌∙◌, arith}
+use Rattle.std.proofs.lemmas.Bool.{leb-true, le-leb, lt-leb, le-ltb, and_parts, and_from}
 use Rattle.action.specs.Action.{is_action, last_port}
 use Rattle.table_format.specs.declared.fault.TableFault.{TableFault}
 use Rattle.table_format.specs.declared.fault.TableFault.TheVariants.{NotVersionOne, PastEnd, WrongStateLength, LeftOver, TooManyModules, WrongStateCount, TooManyMoves, NotAnAction, NotAMark, NotAState, WrongTick}
@@ -8,7 +8,7 @@ use Rattle.table_format.specs.Numbers.{byte, pair, byte_action}
 use Rattle.table_format.specs.Encoding.{no_tick}
 use Rattle.table_format.specs.Reading.{after, codes_at}
 use Rattle.table_format.specs.Taking.{try, ◌▹◌, number, place, move_fault, moves_fault, timed, state_fault, states_fault, module_fault, modules_fault, fault, most_table_modules, most_table_states, most_table_moves}
-use Rattle.table_format.proofs.Faults.{then_l, then_r, then_i, try_none, none_try, le_none, none_le, lt_none, none_lt, eq_none, none_eq, Lies, lies_try, lies_then, lies_at}
+use Rattle.table_format.proofs.Faults.{then_l, then_r, then_i, none_then, some_then, try_none, try_some, none_try, le_none, none_le, lt_none, none_lt, eq_none, none_eq, Lies, lies_try, lies_then, lies_at}
 
 pub record MoveFine (b : List ℕ) (n k : ℕ) : Type 0 where
   pub near : nat_abs (byte_action (byte b k)) ≤ last_port
@@ -66,6 +66,24 @@ module _ (b : List ℕ) (n k : ℕ) where
       then_i m1 (m2 ▹ m3) (none_le (nat_abs (byte_action (byte b k))) last_port (NotAnAction k) f.near)
       (then_i m2 m3 (none_le (byte b (k + 1)) 1 (NotAMark (k + 1)) f.bit)
       (none_lt (pair b (k + 2)) n (NotAState (k + 2)) f.leads))
+
+  -- the first test that fails
+  pub action_stops : is_action (byte_action (byte b k)) ≡ false → move_fault b n k ≡ Some (NotAnAction k)
+  action_stops h = some_then m1 (m2 ▹ m3) (NotAnAction k) (try_some (is_action (byte_action (byte b k))) (NotAnAction k) h)
+
+  pub mark_stops : is_action (byte_action (byte b k)) ≡ true → 1 < byte b (k + 1) → move_fault b n k ≡ Some (NotAMark (k + 1))
+  mark_stops a h =
+      none_then m1 (m2 ▹ m3) (none_try (is_action (byte_action (byte b k))) (NotAnAction k) a)
+      ∙ some_then m2 m3 (NotAMark (k + 1)) (try_some (leb (byte b (k + 1)) 1) (NotAMark (k + 1)) (lt-leb (byte b (k + 1)) 1 h))
+
+  pub state_stops : is_action (byte_action (byte b k)) ≡ true → byte b (k + 1) ≤ 1 → n ≤ pair b (k + 2) → move_fault b n k ≡ Some (NotAState (k + 2))
+  state_stops a u h =
+      none_then m1 (m2 ▹ m3) (none_try (is_action (byte_action (byte b k))) (NotAnAction k) a)
+      ∙ none_then m2 m3 (none_le (byte b (k + 1)) 1 (NotAMark (k + 1)) u)
+      ∙ try_some (ltb (pair b (k + 2)) n) (NotAState (k + 2)) (le-ltb (pair b (k + 2)) n h)
+
+  pub fine_action : is_action (byte_action (byte b k)) ≡ true → byte b (k + 1) ≤ 1 → pair b (k + 2) < n → move_fault b n k ≡ None
+  fine_action a u h = fine_move (record { near = leb-true (nat_abs (byte_action (byte b k))) last_port a; bit = u; leads = h })
 
   move_lies : (z : ℕ) → k + 4 ≤ z → Lies z (move_fault b n k)
   move_lies z l =

@@ -1,5 +1,7 @@
 pub mod Has
+pub mod Entries
 pub mod Faults
+pub mod Fields
 pub mod Numbers
 pub mod Sound
 pub mod FromBytes
@@ -8,5 +10,6 @@ pub mod Fine
 pub mod Law
 pub mod Passing
 pub mod Taken
+pub mod Walking
 pub mod Worked
 pub mod Texts

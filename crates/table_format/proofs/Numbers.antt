@@ -1,11 +1,11 @@
 -- Bytes back and forth. Assumes nothing.
-use Rattle.std.proofs.Common.{◌≡◌, ℕ, zero, suc, ◌-◌, ◌<◌, ◌≤◌, Bool, true, false, eqb, ltb, ℤ, pos, negsuc, nat_abs, Some, None, Option, sym, refl, ap, ◌∙◌, arith, w8, to_z}
-use Rattle.std.proofs.lemmas.Bool.{ltb-true, ltb-false, eqb-true}
+use Rattle.std.proofs.Common.{◌≡◌, ℕ, zero, suc, ◌+◌, ◌-◌, ◌<◌, ◌≤◌, Bool, true, false, eqb, ltb, leb, List, length, ℤ, pos, negsuc, nat_abs, Some, None, Option, sym, refl, ap, ◌∙◌, arith, w8, to_z}
+use Rattle.std.proofs.lemmas.Bool.{ltb-true, ltb-false, eqb-true, le-leb}
 use mir.Facts.{to_z_pos, to_z-neg}
 use Rattle.action.specs.Action.{last_port}
-use Rattle.table_format.specs.Numbers.{action_byte, byte_action, mark_byte}
+use Rattle.table_format.specs.Numbers.{pair, pair_in, action_byte, byte_action, mark_byte}
 use Rattle.table_format.specs.Encoding.{tick_number, no_tick}
-use Rattle.table_format.specs.Reading.{tick_of}
+use Rattle.table_format.specs.Reading.{after, after_in, tick_of}
 
 pub action_back : (x : ℕ) → x < 256 → action_byte (byte_action x) ≡ x
 action_back x h = go (ltb x 128) refl
@@ -49,6 +49,32 @@ tick_forth (Some d) h = go (eqb d no_tick) refl
     go : (r : Bool) → eqb d no_tick ≡ r → ◌≡◌ {A = Option ℕ} (elim r [ true ↦ None | false ↦ Some d ]) (Some d)
     go true e = absurd (omega (arith, h d refl, eqb-true d no_tick e))
     go false e = refl
+
+-- what was read where it is there
+read : (t : Bool) (n v : ℕ) → Some n ≡ elim t as (λ _. Option ℕ) [ true ↦ Some v | false ↦ None ] → n ≡ v
+read true n v e = cc
+read false n v e = cc
+
+there : (t : Bool) (v : ℕ) → t ≡ true → elim t as (λ _. Option ℕ) [ true ↦ Some v | false ↦ None ] ≡ Some v
+there true v e = refl
+there false v e = cc
+
+module _ (b : List ℕ) (i : ℕ) where
+  pub pair_read : (n : ℕ) → Some n ≡ pair_in b i → n ≡ pair b i
+  pair_read n e = read (leb (i + 2) (length b)) n (pair b i) e
+
+  pub after_read : (n : ℕ) → Some n ≡ after_in b i → n ≡ after b i
+  after_read n e = read (leb (i + 2) (length b)) n (after b i) e
+
+  module _ (l : i + 2 ≤ length b) where
+    pub pair_there : pair_in b i ≡ Some (pair b i)
+    pair_there = there (leb (i + 2) (length b)) (pair b i) (le-leb (i + 2) (length b) l)
+
+    pub pair_lost : None ≡ pair_in b i → ⊥
+    pair_lost e = let p : None ≡ Some (pair b i) = e ∙ pair_there in cc
+
+    pub after_there : after_in b i ≡ Some (after b i)
+    after_there = there (leb (i + 2) (length b)) (after b i) (le-leb (i + 2) (length b) l)
 
 -- the cast of a byte
 pub cast_action : (x : ℕ) → x < 256 → to_z w8 x ≡ byte_action x

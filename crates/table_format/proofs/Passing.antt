@@ -1,14 +1,9 @@
 -- One more record passed, or the first that is not. Assumes nothing.
-use Rattle.std.proofs.Common.{◌≡◌, ℕ, suc, ◌+◌, ◌-◌, Bool, true, false, ◌&&◌, ◌||◌, eqb, ltb, leb, List, [], ◌∷◌, length, pos, negsuc, Some, None, sym, refl, ap, ◌∙◌, arith}
-use Rattle.std.proofs.lemmas.Bool.{ne_eqb}
-use Rattle.action.specs.Action.{internal, same}
+use Rattle.std.proofs.Common.{◌≡◌, ℕ, suc, ◌+◌, List, Some, None, sym, ap, ◌∙◌}
 use Rattle.table_format.specs.declared.fault.TableFault.{TableFault}
-use Rattle.table_format.specs.Numbers.{byte, pair, byte_action}
-use Rattle.table_format.specs.declared.fault.TableFault.TheVariants.{NotVersionOne, PastEnd, TooManyModules}
-use Rattle.table_format.specs.Records.{marked}
-use Rattle.table_format.specs.Reading.{after, move_records}
-use Rattle.table_format.proofs.Faults.{none_then, some_then}
-use Rattle.table_format.specs.Taking.{◌▹◌, try, most_table_modules, head_fault, move_fault, moves_fault, state_fault, states_fault, module_fault, modules_fault}
+use Rattle.table_format.specs.Reading.{after, codes_at}
+use Rattle.table_format.proofs.Faults.{none_then, some_then, then_then}
+use Rattle.table_format.specs.Taking.{◌▹◌, move_fault, moves_fault, state_length_fault, state_fields_fault, state_fault, states_fault, module_length_fault, module_head_fault, module_fault, modules_fault}
 
 module _ (b : List ℕ) (n : ℕ) where
   pub moves_on : (j i k l : ℕ) → j ≡ suc i → l ≡ k + 4 → move_fault b n k ≡ None → moves_fault b n j k ≡ moves_fault b n i l
@@ -29,50 +24,25 @@ modules_on b j i m t p q h = ap (λ x. modules_fault b x m) p ∙ none_then (mod
 pub modules_stop : (b : List ℕ) (j i m : ℕ) (f : TableFault) → j ≡ suc i → module_fault b m ≡ Some f → modules_fault b j m ≡ Some f
 modules_stop b j i m f p h = ap (λ x. modules_fault b x m) p ∙ some_then (module_fault b m) (modules_fault b i (after b m)) f h
 
--- the byte of the internal event
-pub zero_internal : (x : ℕ) → x ≡ 0 → same (byte_action x) internal ≡ true
-zero_internal x e = ap (λ y. same (byte_action y) internal) e
+-- a state, or a module, after its length or its head
+pub state_length_stops : (b : List ℕ) (n e s : ℕ) (f : TableFault) → state_length_fault b e s ≡ Some f → state_fault b n e s ≡ Some f
+unfolding state_fault
+state_length_stops b n e s f h = some_then (state_length_fault b e s) (state_fields_fault b n s) f h
 
-pub not_internal : (x : ℕ) → (x ≡ 0 → ⊥) → same (byte_action x) internal ≡ false
-not_internal x h = go (ltb x 128) refl
-  where
-    go : (t : Bool) → ltb x 128 ≡ t → same (elim t [ true ↦ pos x | false ↦ negsuc (255 - x) ]) internal ≡ false
-    go true e = ne_eqb x 0 h
-    go false e = refl
+pub state_rest : (b d : List ℕ) (n e s t : ℕ) → d ≡ b → t ≡ s → state_length_fault b e s ≡ None → state_fault b n e s ≡ state_fields_fault d n t
+unfolding state_fault
+state_rest b d n e s t p q h = none_then (state_length_fault b e s) (state_fields_fault b n s) h ∙ ap (λ z. state_fields_fault z n s) (sym p) ∙ ap (state_fields_fault d n) (sym q)
 
-abbrev here : List ℕ → ℕ → Bool
-here b k = eqb (byte b (k + 1)) 1 && same (byte_action (byte b k)) internal
+pub module_head_stops : (b : List ℕ) (m : ℕ) (f : TableFault) → (module_length_fault b m ▹ module_head_fault b m) ≡ Some f → module_fault b m ≡ Some f
+unfolding module_fault
+module_head_stops b m f h =
+    let rest = states_fault b (codes_at b m) (after b m) (codes_at b m) (m + 6) in
+    sym (then_then (module_length_fault b m) (module_head_fault b m) rest) ∙ some_then (module_length_fault b m ▹ module_head_fault b m) rest f h
 
-or_skip : (x y : Bool) → x ≡ false → (x || y) ≡ y
-or_skip true y e = let z : ◌≡◌ {A = ℕ} 0 1 = cc in absurd (omega arith)
-or_skip false y e = refl
-
-or_hit : (x y : Bool) → x ≡ true → (x || y) ≡ true
-or_hit true y e = refl
-or_hit false y e = let z : ◌≡◌ {A = ℕ} 0 1 = cc in absurd (omega arith)
-
-pub here_yes : (b : List ℕ) (k : ℕ) → byte b k ≡ 0 → byte b (k + 1) ≡ 1 → here b k ≡ true
-here_yes b k p q = ap (λ x. eqb x 1 && same (byte_action (byte b k)) internal) q ∙ zero_internal (byte b k) p
-
-and_off : (x y : Bool) → y ≡ false → (x && y) ≡ false
-and_off true y e = e
-and_off false y e = refl
-
-pub here_no_0 : (b : List ℕ) (k : ℕ) → (byte b k ≡ 0 → ⊥) → here b k ≡ false
-here_no_0 b k h = and_off (eqb (byte b (k + 1)) 1) (same (byte_action (byte b k)) internal) (not_internal (byte b k) h)
-
-pub here_no_1 : (b : List ℕ) (k : ℕ) → (byte b (k + 1) ≡ 1 → ⊥) → here b k ≡ false
-here_no_1 b k h = ap (λ x. x && same (byte_action (byte b k)) internal) (ne_eqb (byte b (k + 1)) 1 h)
-
-pub internal_on : (b : List ℕ) (j i k l : ℕ) → j ≡ suc i → l ≡ k + 4 → here b k ≡ false → marked (move_records b j k) internal ≡ marked (move_records b i l) internal
-internal_on b j i k l p q e = ap (λ x. marked (move_records b x k) internal) p ∙ or_skip (here b k) (marked (move_records b i (k + 4)) internal) e ∙ ap (λ x. marked (move_records b i x) internal) (sym q)
-
-pub internal_hit : (b : List ℕ) (j i k : ℕ) → j ≡ suc i → here b k ≡ true → marked (move_records b j k) internal ≡ true
-internal_hit b j i k p e = ap (λ x. marked (move_records b x k) internal) p ∙ or_hit (here b k) (marked (move_records b i (k + 4)) internal) e
-
-pub no_version : (b : List ℕ) → (byte b 0 ≡ 1 → ⊥) → head_fault b ≡ Some NotVersionOne
-no_version b h = some_then (try (eqb (byte b 0) 1) NotVersionOne) (try (leb 3 (length b)) (PastEnd 1) ▹ try (leb (pair b 1) most_table_modules) TooManyModules) NotVersionOne (ap (λ t. try t NotVersionOne) (ne_eqb (byte b 0) 1 h))
-
-pub first_of_none : (b : List ℕ) → length b ≡ 0 → byte b 0 ≡ 1 → ⊥
-first_of_none [] h e = omega arith
-first_of_none (x ∷ xs) h e = omega arith
+pub module_rest : (b d : List ℕ) (m t n e : ℕ) → d ≡ b → t ≡ m → n ≡ codes_at d t → e ≡ after d t → (module_length_fault b m ▹ module_head_fault b m) ≡ None → module_fault b m ≡ states_fault d n e n (t + 6)
+unfolding module_fault
+module_rest b d m t n e p q u v h =
+    let rest = λ (z : List ℕ) (i : ℕ). states_fault z (codes_at z i) (after z i) (codes_at z i) (i + 6) in
+    sym (then_then (module_length_fault b m) (module_head_fault b m) (rest b m)) ∙ none_then (module_length_fault b m ▹ module_head_fault b m) (rest b m) h
+    ∙ ap (λ z. rest z m) (sym p) ∙ ap (rest d) (sym q)
+    ∙ ap (λ x. states_fault d x (after d t) x (t + 6)) (sym u) ∙ ap (λ x. states_fault d n x n (t + 6)) (sym v)

@@ -1,5 +1,5 @@
 -- Numbers in bytes, the higher byte first. Assumes nothing.
-use Rattle.std.specs.Prelude.{ℕ, ◌+◌, ◌-◌, ◌*◌, ◌/◌, ◌%◌, ◌<◌, Bool, true, false, List, [], ◌∷◌, ℤ, pos, negsuc, nat_lt, slice_index}
+use Rattle.std.specs.Prelude.{ℕ, ◌+◌, ◌-◌, ◌*◌, ◌/◌, ◌%◌, ◌<◌, Bool, true, false, List, [], ◌∷◌, length, ℤ, pos, negsuc, Some, None, Option, nat_le, nat_lt, slice_index}
 
 -- the byte at an offset; past the end 0
 abbrev pub byte : List ℕ → ℕ → ℕ
@@ -8,6 +8,10 @@ byte b i = slice_index b i
 -- the number in the two bytes at an offset
 abbrev pub pair : List ℕ → ℕ → ℕ
 pair b i = 256 * byte b i + byte b (i + 1)
+
+-- the same, where both bytes are there
+abbrev pub pair_in : List ℕ → ℕ → Option ℕ
+pair_in b i = elim (nat_le (i + 2) (length b)) [ true ↦ Some (pair b i) | false ↦ None ]
 
 -- Numbers of two bytes are below this.
 abbrev pub two_byte_end : ℕ

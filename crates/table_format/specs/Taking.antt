@@ -72,6 +72,11 @@ moves_fault b n (suc j) k = move_fault b n k ▹ moves_fault b n j (k + 4)
 abbrev pub timed : List ℕ → ℕ → Bool
 timed b s = elim (pair b (s + 2) == no_tick) [ true ↦ marked (move_records b (byte b (s + 4)) (s + 5)) internal | false ↦ not (marked (move_records b (byte b (s + 4)) (s + 5)) internal) ]
 
+-- a tick that is no state of a module of n states
+abbrev pub leads_outside : Option ℕ → ℕ → Bool
+leads_outside None n = false
+leads_outside (Some d) n = nat_le n d
+
 -- the length of the state at s, in a module that ends at e
 abbrev pub state_length_fault : List ℕ → ℕ → ℕ → Option TableFault
 state_length_fault b e s =

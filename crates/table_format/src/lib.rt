@@ -2,9 +2,12 @@
 #![tactic(auto)]
 
 mod fault;
+mod module;
 mod number;
+mod record;
 mod trying;
 
 pub use fault::TableFault;
-pub use number::{NO_TICK, action_of};
+pub use number::{NO_TICK, action_of, after, pair_at};
+pub use record::StateRecord;
 pub use trying::try_table;

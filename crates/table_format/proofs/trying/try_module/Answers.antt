@@ -1,45 +1,35 @@
-use Rattle.std.proofs.Common.{◌≡◌, ℕ, ◌+◌, List, Some, None, Option, sym, ap, ◌∙◌}
+use Rattle.std.proofs.Common.{leb, ◌∙◌, ap}
+use Rattle.std.proofs.lemmas.Bool.{lt-leb}
 use Rattle.std.proofs.lemmas.Result.{err_from_is_err_and}
-use Rattle.table_format.specs.declared.fault.TableFault.{TableFault}
-use Rattle.table_format.specs.Reading.{after, codes_at}
-use Rattle.table_format.specs.Taking.{◌▹◌, module_fault, module_length_fault, module_head_fault, states_fault}
-use Rattle.table_format.proofs.Faults.{then_i}
-use Rattle.table_format.proofs.Faults.{none_then, some_then}
+use Rattle.table_format.specs.declared.fault.TableFault.TheVariants.{LeftOver}
+use Rattle.table_format.specs.Reading.{after}
+use Rattle.table_format.proofs.Faults.{try_some, none_le}
+use Rattle.table_format.proofs.Passing.{module_head_stops, module_rest}
 use Rattle.table_format.proofs.trying.try_module.Goals as goal
 
-abbrev states_of : List ℕ → ℕ → Option TableFault
-states_of b m = states_fault b (codes_at b m) (after b m) (codes_at b m) (m + 6)
-
-at_states : (b : List ℕ) (n e m : ℕ) (o : Option TableFault) → n ≡ codes_at b m → e ≡ after b m → states_fault b n e n (m + 6) ≡ o → states_of b m ≡ o
-at_states b n e m o p q h = ap (λ x. states_fault b x (after b m) x (m + 6)) (sym p) ∙ ap (λ x. states_fault b n x n (m + 6)) (sym q) ∙ h
-
-pub returns-in_err-end : goal.returns-in_err-end
-unfolding module_fault
-returns-in_err-end c =
+pub returns-in_err-module : goal.returns-in_err-module
+returns-in_err-module c =
     let p = err_from_is_err_and c.from_residual.result c.from_residual.ensures.1 in
-    let b = c.args.bytes.now in let m = c.args.m in
-    rw (p.1, p.2) (some_then (module_length_fault b m) (module_head_fault b m ▹ states_of b m) _ c.in_err-end.ensures)
+    rw (p.1, p.2) (module_head_stops c.args.bytes.now c.args.m _ c.in_err-module.ensures)
 
-pub returns-in_err-codes : goal.returns-in_err-codes
-unfolding module_fault
-returns-in_err-codes c =
-    let p = err_from_is_err_and c.from_residual-in_err-codes.result c.from_residual-in_err-codes.ensures.1 in
-    let b = c.args.bytes.now in let m = c.args.m in
-    rw (p.1, p.2) (none_then (module_length_fault b m) (module_head_fault b m ▹ states_of b m) c.in_ok-end.ensures.0 ∙ some_then (module_head_fault b m) (states_of b m) _ c.in_err-codes.ensures)
+pub returns-in_err-rest : goal.returns-in_err-rest
+returns-in_err-rest c =
+    let p = err_from_is_err_and c.from_residual-in_err-rest.result c.from_residual-in_err-rest.ensures.1 in
+    let d = c.in_ok-module.module in
+    let h = c.in_ok-module.ensures in
+    rw (p.1, p.2) (module_rest c.args.bytes.now d.bytes.now c.args.m d.at d.codes d.end h.1.0 h.1.1 d.counted d.ended h.0 ∙ c.in_err-rest.ensures)
 
-pub returns-in_err-try_states : goal.returns-in_err-try_states
-unfolding module_fault
-returns-in_err-try_states c =
-    let p = err_from_is_err_and c.from_residual-in_err-try_states.result c.from_residual-in_err-try_states.ensures.1 in
-    let b = c.args.bytes.now in let m = c.args.m in
-    rw (p.1, p.2) (none_then (module_length_fault b m) (module_head_fault b m ▹ states_of b m) c.in_ok-end.ensures.0 ∙ none_then (module_head_fault b m) (states_of b m) c.in_ok-codes.ensures.0
-    ∙ at_states b c.in_ok-codes.codes c.in_ok-end.end m (Some c.in_err-try_states.field-0.0) c.in_ok-codes.ensures.1 c.in_ok-end.ensures.1 c.in_err-try_states.ensures)
+pub returns-then-rest-module : goal.returns-then-rest-module
+returns-then-rest-module c =
+    let d = c.in_ok-module.module in
+    let h = c.in_ok-module.ensures in
+    module_rest c.args.bytes.now d.bytes.now c.args.m d.at d.codes d.end h.1.0 h.1.1 d.counted d.ended h.0 ∙ c.in_ok-rest.ensures
+    ∙ try_some (leb d.end c.in_ok-rest.rest) (LeftOver c.in_ok-rest.rest) (lt-leb d.end c.in_ok-rest.rest c.if-rest-module.true)
 
 pub returns : goal.returns
-unfolding module_fault
 returns c =
-    let b = c.args.bytes.now in let m = c.args.m in (
-      then_i (module_length_fault b m) (module_head_fault b m ▹ states_of b m) c.in_ok-end.ensures.0 (then_i (module_head_fault b m) (states_of b m) c.in_ok-codes.ensures.0
-          (at_states b c.in_ok-codes.codes c.in_ok-end.end m None c.in_ok-codes.ensures.1 c.in_ok-end.ensures.1 c.in_ok-try_states.ensures)),
-      c.in_ok-end.ensures.1,
+    let d = c.in_ok-module.module in
+    let h = c.in_ok-module.ensures in (
+      module_rest c.args.bytes.now d.bytes.now c.args.m d.at d.codes d.end h.1.0 h.1.1 d.counted d.ended h.0 ∙ c.in_ok-rest.ensures ∙ none_le d.end c.in_ok-rest.rest (LeftOver c.in_ok-rest.rest) c.if-rest-module.false,
+      d.ended ∙ ap (λ z. after z d.at) h.1.0 ∙ ap (after c.args.bytes.now) h.1.1,
     )

@@ -1,18 +1,14 @@
-use Rattle.std.proofs.Common.{◌+◌, ◌-◌, sym, ◌∙◌, arith}
-use Rattle.std.proofs.lemmas.Result.{err_from_is_err_and}
-use Rattle.table_format.proofs.Fine.{module_fine}
+use Rattle.std.proofs.Common.{rules}
+use Rattle.table_format.specs.Reading.{after}
+use Rattle.table_format.specs.Taking.{module_fault, modules_fault}
+use Rattle.table_format.specs.Told.{Gives}
 use Rattle.table_format.proofs.Passing.{modules_on, modules_stop}
+use Rattle.table_format.proofs.Walking.{walked, gives_ok, gives_err}
 use Rattle.table_format.proofs.trying.try_modules.Goals as goal
 
-pub returns-in_err-m : goal.returns-in_err-m
-returns-in_err-m c =
-    let p = err_from_is_err_and c.from_residual.result c.from_residual.ensures.1 in
-    rw (p.1, p.2) (sym c.loop-i.invariant.1 ∙ modules_stop c.args.bytes.now (c.args.count - c.loop-i._i) (c.args.count - (c.loop-i._i + 1)) c.loop-i.m _ (omega arith) c.in_err-m.ensures)
-
-pub loop-i-preserved : goal.loop-i-preserved
-loop-i-preserved c =
-    let h = c.in_ok-m.ensures in
-    let f = module_fine c.args.bytes.now c.loop-i.m h.0 in (
-      omega (arith, f.inside, h.1),
-      sym (modules_on c.args.bytes.now (c.args.count - c.loop-i._i) (c.args.count - (c.loop-i._i + 1)) c.loop-i.m _ (omega arith) h.1 h.0) ∙ c.loop-i.invariant.1,
-    )
+pub returns : goal.returns
+returns c =
+    let b = c.args.bytes.now in
+    walked (module_fault b) (after b) (modules_fault b) (modules_on b) (modules_stop b) c.try_fold.result c.args.count 3 c.try_fold.ensures.ran
+    (λ s x q d. (let g : Gives (module_fault b s) (after b s) d.0 = search rules in let h = gives_ok (module_fault b s) (after b s) q.1 d.0 g d.2 in (search rules, h.0, h.1)))
+    (λ s x d. (let g : Gives (module_fault b s) (after b s) d.0 = search rules in let h = gives_err (module_fault b s) (after b s) d.2.0 d.0 g d.4 in (d.2.0, search rules, h)))

@@ -12,4 +12,4 @@ pub returns : goal.returns
 returns c =
     let t = c.args.self.now in
     let b = written t in
-    omega (arith, c.len.ensures, t.modules.ok.0, ap length t.placed, count_places b (pair b 1) 3 0, length-map (module_records b) meant_module, count_modules b)
+    omega (arith, c.len.ensures, t.index.modules.ok.0, ap length t.placed, count_places b (pair b 1) 3 0, length-map (module_records b) meant_module, count_modules b)
