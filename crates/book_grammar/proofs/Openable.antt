@@ -1,9 +1,11 @@
 -- The rows of a book that was taken are refused, when they are opened, only for what places lead to: 8, 9 and 10.
-use Rattle.std.proofs.Common.{◌≡◌, ℕ, zero, suc, ◌+◌, ◌-◌, ◌*◌, ◌<◌, ◌≤◌, Bool, true, false, cond, eqb, ltb, leb, List, [], ◌∷◌, ◌++◌, map, length, take, drop, pos, negsuc, Some, None, codes, Option, sym, refl, ap, ◌∙◌, subst, arith, length-append}
+use Rattle.std.proofs.Common.{◌≡◌, ℕ, zero, suc, ◌+◌, ◌-◌, ◌*◌, ◌<◌, ◌≤◌, Bool, true, false, cond, not, ◌&&◌, eqb, ltb, leb, List, [], ◌∷◌, ◌++◌, map, length, take, drop, pos, negsuc, Some, None, codes, Option, option_and_then, sym, refl, ap, ◌∙◌, subst, arith, length-append}
+use Rattle.std.specs.Char.{is_ascii_digit, is_ascii_uppercase, is_ascii_alphanumeric}
+use Rattle.std.specs.Int.{is_in_range}
 use Rattle.std.specs.List.{prefix_len}
 use Rattle.std.proofs.lemmas.List.{append-nil, append_assoc, length_push, length-map, drop_at, take_at}
-use Rattle.std.proofs.lemmas.Bool.{ltb-true, ltb-false, lt-ltb, le-leb, and_parts, and_from}
-use Rattle.action.specs.Action.{is_action, internal}
+use Rattle.std.proofs.lemmas.Bool.{ltb-true, lt-ltb, le-leb, and_parts, and_from}
+use Rattle.action.specs.Action.{is_action, internal, last_port, opposite, same as equal}
 use Rattle.rows.specs.declared.row.Place.{Place}
 use Rattle.rows.specs.declared.row.Place.TheVariants.{Nil, Act, Wait, Sum as SumRow, Name}
 use Rattle.rows.specs.declared.row.ModuleRow.{ModuleRow}
@@ -12,7 +14,7 @@ use Rattle.rows.specs.declared.fault.RowsFault.TheVariants.{Unguarded, Deep, Man
 use Rattle.rows.specs.Faults.{refusal_number}
 use Rattle.rows.specs.Places.{row, guarded, depth_of, moves_of, ages}
 use Rattle.rows.specs.Opening.{inside, by_action, first_failing, unless, unless_at, places_of, places_fault, module_fault, fault_from, fault}
-use Rattle.book_words.specs.Words.{same, Kind, words, kinds, words_from, blank, alnum, digit, capital, size_at, kind_at, run_kind, mark_kind, ported, port_of, port_up_to, minus}
+use Rattle.book_words.specs.Words.{same, Kind, words, kinds, words_from, blank, size_at, kind_at, run_kind, mark_kind, ported, port_of, port_up_to}
 use Rattle.book_words.specs.Words.Kind.{alien, other, bad, begins, nil, wait, dot, plus, equals, ends, opens, closes, enter, leave, name, act}
 use Rattle.book_grammar.specs.Grammar.{Tree, Equation, Module, Term, Sum, Equations, Book}
 use Rattle.book_grammar.specs.Grammar.Tree.{nought, called, waits, acts, both, group}
@@ -51,34 +53,37 @@ either : (x : Bool) (k l : Kind) → KindOk k → KindOk l → KindOk (cond x k 
 either true k l a b = a
 either false k l a b = b
 
-cond_small : (x : Bool) (a b : ℕ) → a ≤ 31 → b ≤ 31 → cond x a b ≤ 31
-cond_small true a b h k = h
-cond_small false a b h k = k
-
-up_small : (n : ℕ) → port_up_to n ≤ 31
-up_small n = go (ltb 31 n) refl
+-- a port makes an action, and so does its opposite
+opposite_ok : (n : ℕ) → KindOk (ported (opposite (pos n)))
+opposite_ok zero = tt
+opposite_ok (suc n) = go (leb (suc n) last_port) (equal (pos (suc n)) internal) refl
   where
-    go : (b : Bool) → ltb 31 n ≡ b → cond b 0 n ≤ 31
-    go true e = omega arith
-    go false e = ltb-false 31 n e
+    go : (b s : Bool) → leb (suc n) last_port ≡ b → KindOk (ported (elim (b && not s) [ true ↦ Some (negsuc n) | false ↦ None ]))
+    go true true e = tt
+    go true false e = e
+    go false s e = tt
 
-port_small : (ds : List ℕ) → port_of ds ≤ 31
-port_small [] = omega arith
-port_small (d ∷ []) = up_small (d - 48)
-port_small (d ∷ e ∷ []) = cond_small (eqb d 48) 0 (port_up_to ((d - 48) * 10 + (e - 48))) (omega arith) (up_small ((d - 48) * 10 + (e - 48)))
-port_small (d ∷ e ∷ g ∷ more) = omega arith
+up_ok : (n : ℕ) → KindOk (ported (port_up_to n)) × KindOk (ported (option_and_then opposite (port_up_to n)))
+up_ok n = go (is_in_range 1 last_port n) refl
+  where
+    go : (b : Bool) → is_in_range 1 last_port n ≡ b → KindOk (ported (cond b (Some (pos n)) None)) × KindOk (ported (option_and_then opposite (cond b (Some (pos n)) None)))
+    go true e = ((and_parts _ _ e).1, opposite_ok n)
+    go false e = (tt, tt)
 
-receives : (n : ℕ) → n ≤ 31 → KindOk (ported n pos)
-receives n h = either (eqb n 0) bad (act (pos n)) tt (le-leb n 31 h)
-
-sends : (n : ℕ) → n ≤ 31 → KindOk (ported n minus)
-sends zero h = tt
-sends (suc n) h = either (eqb (suc n) 0) bad (act (negsuc n)) tt (le-leb (suc n) 31 h)
+port_ok : (ds : List ℕ) → KindOk (ported (port_of ds)) × KindOk (ported (option_and_then opposite (port_of ds)))
+port_ok [] = (tt, tt)
+port_ok (d ∷ []) = up_ok (d - 48)
+port_ok (d ∷ e ∷ []) = go (eqb d 48)
+  where
+    go : (b : Bool) → KindOk (ported (cond b None (port_up_to ((d - 48) * 10 + (e - 48))))) × KindOk (ported (option_and_then opposite (cond b None (port_up_to ((d - 48) * 10 + (e - 48))))))
+    go true = (tt, tt)
+    go false = up_ok ((d - 48) * 10 + (e - 48))
+port_ok (d ∷ e ∷ g ∷ more) = (tt, tt)
 
 run_ok : (bs : List ℕ) → KindOk (run_kind bs)
 run_ok [] = tt
 run_ok (b ∷ bs) =
-    either (capital b) (name (b ∷ bs)) _ tt (either (same (b ∷ bs) (codes "module")) begins _ tt (either (same (b ∷ bs) (codes "0")) nil _ tt
+    either (is_ascii_uppercase b) (name (b ∷ bs)) _ tt (either (same (b ∷ bs) (codes "module")) begins _ tt (either (same (b ∷ bs) (codes "0")) nil _ tt
     (either (same (b ∷ bs) (codes "w")) wait _ tt (either (same (b ∷ bs) (codes "i")) (act internal) other refl tt))))
 
 mark_ok : (b : ℕ) → KindOk (mark_kind b)
@@ -88,10 +93,10 @@ mark_ok b =
 
 kind_ok : (b : ℕ) (bs : List ℕ) → KindOk (kind_at b bs)
 kind_ok b bs =
-    let ds = take (prefix_len digit bs) bs in
-    either (alnum b) (run_kind (b ∷ take (prefix_len alnum bs) bs)) _ (run_ok (b ∷ take (prefix_len alnum bs) bs))
-    (either (eqb b 63) (ported (port_of ds) pos) _ (receives (port_of ds) (port_small ds))
-    (either (eqb b 33) (ported (port_of ds) minus) (mark_kind b) (sends (port_of ds) (port_small ds)) (mark_ok b)))
+    let ds = take (prefix_len is_ascii_digit bs) bs in
+    either (is_ascii_alphanumeric b) (run_kind (b ∷ take (prefix_len is_ascii_alphanumeric bs) bs)) _ (run_ok (b ∷ take (prefix_len is_ascii_alphanumeric bs) bs))
+    (either (eqb b 63) (ported (port_of ds)) _ (port_ok ds).0
+    (either (eqb b 33) (ported (option_and_then opposite (port_of ds))) (mark_kind b) (port_ok ds).1 (mark_ok b)))
 
 words_ok : (n at : ℕ) (bs : List ℕ) → Each KindOk (kinds (words_from n at bs))
 words_ok zero at bs = tt

@@ -11,7 +11,6 @@ pub mod Terms
 pub mod Naming
 pub mod Settling
 pub mod Leaving
-pub mod Zeroing
 pub mod Whole
 pub mod Judging
 pub mod Promising

@@ -1,6 +1,6 @@
 -- What is open, as ops and floors stand for it.
-use Rattle.std.proofs.Common.{◌≡◌, ℕ, zero, suc, ◌+◌, ◌-◌, ◌<◌, ◌≤◌, ◌≢◌, List, [], ◌∷◌, ◌++◌, length, get_or, set, sym, refl, ap, ◌∙◌, subst, arith}
-use Rattle.std.proofs.lemmas.List.{append-nil, get_or-set_same, get_or-set_other, get_or_past, set_past}
+use Rattle.std.proofs.Common.{◌≡◌, ℕ, zero, suc, ◌+◌, ◌-◌, ◌<◌, ◌≤◌, ◌≢◌, List, [], ◌∷◌, ◌++◌, length, get_or, take, set, sym, refl, ap, ◌∙◌, subst, arith}
+use Rattle.std.proofs.lemmas.List.{append-nil, get_or-set_same, get_or-set_other, get_or_past, set_past, length_push, length-take-le, get_or-take, get_or_push, get_or_append_left}
 use Rattle.book_grammar.specs.Reading.{Open as Entry, around, parens}
 use Rattle.book_grammar.specs.Reading.Open.{paren}
 use Rattle.book_grammar.proofs.Overfull.{shape, ops}
@@ -53,35 +53,39 @@ op_kept os n o h = get_or-set_same os n o Waiting h
 pub op_lost : (os : List Open) (n : ℕ) (o : Open) → length os ≤ n → op_at (set os n o) n ≡ Waiting
 op_lost os n o h = ap (λ (l : List Open). op_at l n) (set_past os n o h) ∙ get_or_past os n Waiting h
 
--- a floor that is written is above those below it
-tidy_set : (floors : List ℕ) (i x : ℕ) (k n : ℕ) → k ≤ i → Tidy floors k n → Tidy (set floors i x) k n
-tidy_set floors i x zero n h t = tt
-tidy_set floors i x (suc k) n h t =
-    let ne : k ≢ i = omega arith in
-    let e = get_or-set_other floors i k x 0 ne in
-    (subst (λ (y : ℕ). y ≤ n) (sym e) t.0, subst (λ (y : ℕ). Tidy (set floors i x) k y) (sym e) (tidy_set floors i x k (get_or floors k 0) (omega arith) t.1))
+-- only the floors of the parentheses that are open count
+tidy_alike : (floors floors' : List ℕ) (k n : ℕ) → ((j : ℕ) → j < k → get_or floors' j 0 ≡ get_or floors j 0) → Tidy floors k n → Tidy floors' k n
+tidy_alike floors floors' zero n e t = tt
+tidy_alike floors floors' (suc k) n e t =
+    let h = sym (e k (omega arith)) in
+    (subst (λ (y : ℕ). y ≤ n) h t.0, subst (λ (y : ℕ). Tidy floors' k y) h (tidy_alike floors floors' k (get_or floors k 0) (λ j i. e j (omega arith)) t.1))
 
-floors_set : (os : List Open) (floors : List ℕ) (i x : ℕ) (k n : ℕ) → k ≤ i → opened_in os (set floors i x) k n ≡ opened_in os floors k n
-floors_set os floors i x zero n h = refl
-floors_set os floors i x (suc k) n h =
-    let ne : k ≢ i = omega arith in
-    let e = get_or-set_other floors i k x 0 ne in
-    ap (λ (y : ℕ). above os y (n - y) ++ paren ∷ opened_in os (set floors i x) k y) e
-    ∙ ap (λ (l : List Entry). above os (get_or floors k 0) (n - get_or floors k 0) ++ paren ∷ l) (floors_set os floors i x k (get_or floors k 0) (omega arith))
+floors_alike : (os : List Open) (floors floors' : List ℕ) (k n : ℕ) → ((j : ℕ) → j < k → get_or floors' j 0 ≡ get_or floors j 0)
+    → opened_in os floors' k n ≡ opened_in os floors k n
+floors_alike os floors floors' zero n e = refl
+floors_alike os floors floors' (suc k) n e =
+    ap (λ (y : ℕ). above os y (n - y) ++ paren ∷ opened_in os floors' k y) (e k (omega arith))
+    ∙ ap (λ (l : List Entry). above os (get_or floors k 0) (n - get_or floors k 0) ++ paren ∷ l)
+    (floors_alike os floors floors' k (get_or floors k 0) (λ j i. e j (omega arith)))
 
 -- one more parenthesis
-pub tidy_open : (floors : List ℕ) (k n : ℕ) → k < length floors → Tidy floors k n → Tidy (set floors k n) (suc k) n
-tidy_open floors k n h t =
-    let e = get_or-set_same floors k n 0 h in
-    (omega (arith, e), subst (λ (y : ℕ). Tidy (set floors k n) k y) (sym e) (tidy_set floors k n k n (omega arith) t))
+pub tidy_open : (floors : List ℕ) (n : ℕ) → Tidy floors (length floors) n → Tidy (floors ++ n ∷ []) (length (floors ++ n ∷ [])) n
+tidy_open floors n t =
+    let f = floors ++ n ∷ [] in
+    let one : length f ≡ suc (length floors) = omega (arith, length_push floors n) in
+    let e : get_or f (length floors) 0 ≡ n = get_or_push floors n 0 (length floors) refl in
+    let t' : Tidy f (length floors) n = tidy_alike floors f (length floors) n (λ j h. get_or_append_left floors (n ∷ []) 0 j h) t in
+    subst (λ (k : ℕ). Tidy f k n) (sym one) (omega (arith, e), subst (λ (y : ℕ). Tidy f (length floors) y) (sym e) t')
 
-pub opened_open : (os : List Open) (floors : List ℕ) (k n : ℕ) → k < length floors → opened_in os (set floors k n) (suc k) n ≡ paren ∷ opened_in os floors k n
-opened_open os floors k n h =
-    let e = get_or-set_same floors k n 0 h in
+pub opened_open : (os : List Open) (floors : List ℕ) (n : ℕ) → opened_in os (floors ++ n ∷ []) (length (floors ++ n ∷ [])) n ≡ paren ∷ opened_in os floors (length floors) n
+opened_open os floors n =
+    let f = floors ++ n ∷ [] in
+    let one : length f ≡ suc (length floors) = omega (arith, length_push floors n) in
     let z : n - n ≡ 0 = omega arith in
-    ap (λ (y : ℕ). above os y (n - y) ++ paren ∷ opened_in os (set floors k n) k y) e
-    ∙ ap (λ (y : ℕ). above os n y ++ paren ∷ opened_in os (set floors k n) k n) z
-    ∙ ap (λ (l : List Entry). paren ∷ l) (floors_set os floors k n k n (omega arith))
+    ap (λ (k : ℕ). opened_in os f k n) one
+    ∙ ap (λ (y : ℕ). above os y (n - y) ++ paren ∷ opened_in os f (length floors) y) (get_or_push floors n 0 (length floors) refl)
+    ∙ ap (λ (y : ℕ). above os n y ++ paren ∷ opened_in os f (length floors) n) z
+    ∙ ap (λ (l : List Entry). paren ∷ l) (floors_alike os floors f (length floors) n (λ j h. get_or_append_left floors (n ∷ []) 0 j h))
 
 -- what is open below the innermost parenthesis, with it
 abbrev pub enclosing : List Open → List ℕ → ℕ → List Entry
@@ -158,3 +162,37 @@ count_opened os floors (suc k) n t =
     let a = count_above os f (n - f) (paren ∷ opened_in os floors k f) in
     let b = count_opened os floors k f t.1 in
     omega arith
+
+-- and one that is closed, with no op behind it
+pub opened_none : (os : List Open) (floors : List ℕ) (n : ℕ) → length floors ≡ 0 → n ≡ floor_of floors (length floors) → opened_in os floors (length floors) n ≡ []
+opened_none os floors n z h =
+    ap (λ (x : ℕ). opened_in os floors (length floors) x) h ∙ opened_rest os floors (length floors) ∙ ap (λ (x : ℕ). enclosing os floors x) z
+
+module _ (floors : List ℕ) (n : ℕ) (z : 0 < length floors) (h : n ≡ floor_of floors (length floors)) where
+  abbrev lower : List ℕ
+  lower = take (length floors - 1) floors
+
+  lower_long : length lower ≡ length floors - 1
+  lower_long = length-take-le (length floors - 1) floors (omega arith)
+
+  more : length floors ≡ suc (length floors - 1)
+  more = omega arith
+
+  innermost : get_or floors (length floors - 1) 0 ≡ n
+  innermost = sym (h ∙ ap (λ (x : ℕ). floor_of floors x) more)
+
+  lower_alike : (j : ℕ) → j < length floors - 1 → get_or lower j 0 ≡ get_or floors j 0
+  lower_alike j i = get_or-take (length floors - 1) floors j 0 i
+
+  pub opened_closes : (os : List Open) → opened_in os floors (length floors) n ≡ paren ∷ opened_in os lower (length lower) n
+  opened_closes os =
+      ap (λ (x : ℕ). opened_in os floors (length floors) x) h ∙ opened_rest os floors (length floors) ∙ ap (λ (x : ℕ). enclosing os floors x) more
+      ∙ ap (λ (x : ℕ). paren ∷ opened_in os floors (length floors - 1) x) innermost
+      ∙ ap (λ (l : List Entry). paren ∷ l) (sym (floors_alike os floors lower (length floors - 1) n lower_alike))
+      ∙ ap (λ (k : ℕ). paren ∷ opened_in os lower k n) (sym lower_long)
+
+  pub tidy_closes : Tidy floors (length floors) n → Tidy lower (length lower) n
+  tidy_closes t =
+      let t' : Tidy floors (suc (length floors - 1)) n = subst (λ (x : ℕ). Tidy floors x n) more t in
+      subst (λ (k : ℕ). Tidy lower k n) (sym lower_long)
+      (tidy_alike floors lower (length floors - 1) n lower_alike (subst (λ (x : ℕ). Tidy floors (length floors - 1) x) innermost t'.1))

@@ -13,8 +13,8 @@ use Rattle.book_text.specs.declared.parser.State.TheVariants.{Outside, Title, Br
 use Rattle.book_text.specs.Faults.{number_of, where_of}
 use Rattle.book_text.specs.Faults.Where.{offset_at}
 use Rattle.book_text.specs.Parsers.{view}
-use Rattle.book_text.specs.Changes.{is_at, in_state}
-use Rattle.book_text.specs.Steps.{Steady, Leads, Passes}
+use Rattle.book_text.specs.Changes.{is_at, in_state, Passes}
+use Rattle.book_text.specs.Steps.{Steady, Leads}
 use Rattle.book_text.proofs.Trying.{stop_2, stop_3, stop_7, go_to, leads_to, over_modules, over_lent}
 use Rattle.book_text.proofs.Viewing.{known, titles_long, not_over, steady_in, poised_at, modules_at, lent_at, told_at}
 
@@ -23,7 +23,7 @@ module _ (text : List ℕ) (d : Parser) (P : List Place) (M : List ModuleRow) (a
   unfolding view
   module_no h = stop_2 (length P) (length M) (view text d P M) begins refl h
 
-  pub module_many : is_at d.state Outside ≡ true → (64 ≤ d.begun) ⊎ (length M ≤ d.begun) → tried (length P) (length M) (view text d P M) begins ≡ stops 7
+  pub module_many : is_at d.state Outside ≡ true → (64 ≤ length d.titles.items) ⊎ (length M ≤ length d.titles.items) → tried (length P) (length M) (view text d P M) begins ≡ stops 7
   unfolding view
   module_many h g =
       let t = titles_long text at d P M st in
@@ -33,7 +33,7 @@ module _ (text : List ℕ) (d : Parser) (P : List Place) (M : List ModuleRow) (a
         | inr i ↦ over_lent (length P) (length M) (moved (view text d P M) begins) (omega arith)
       ])
 
-  pub module_ok : is_at d.state Outside ≡ true → d.begun < 64 → d.begun < length M
+  pub module_ok : is_at d.state Outside ≡ true → length d.titles.items < 64 → length d.titles.items < length M
       → Leads (length P) (length M) (length text) (view text d P M) begins at (view text (in_state Title d) P M) (in_state Title d) (Ok tt)
   unfolding view
   module_ok h i j =

@@ -1,21 +1,22 @@
 -- Names that are led to the right sides of their equations, row by row.
-use Rattle.std.proofs.Common.{◌≡◌, ℕ, zero, suc, ◌+◌, ◌-◌, ◌<◌, ◌≤◌, Bool, true, false, List, [], ◌∷◌, ◌++◌, map, length, get_or, take, drop, set, Some, None, Option, sym, refl, ap, ◌∙◌, arith}
+use Rattle.std.proofs.Common.{◌≡◌, ℕ, zero, suc, ◌+◌, ◌<◌, ◌≤◌, Bool, true, false, not, List, [], ◌∷◌, ◌++◌, map, length, get_or, take, drop, set, Some, None, is_some, Option, sym, refl, ap, ◌∙◌, arith}
 use Rattle.std.proofs.lemmas.List.{append-nil, append_assoc, length-set, take_more, take_more_set, drop-set-lt, drop-drop, get_or-drop, get_or-take, map_push, length-take-le, take_all}
-use Rattle.std.proofs.lemmas.Bool.{or_from, or_parts, or_left, or_right, not_from_true, not_from_false}
+use Rattle.std.proofs.lemmas.Bool.{or_from, or_parts, or_left, or_right}
+use Rattle.std.specs.List.{find}
 use Rattle.action.specs.Lists.{any}
 use Rattle.rows.specs.declared.row.Place.{Place}
 use Rattle.rows.specs.declared.row.Place.TheVariants.{Nil, Act, Wait, Sum, Name}
 use Rattle.book_words.specs.Words.{same}
-use Rattle.book_grammar.specs.Rows.{Row, Side, settled}
+use Rattle.book_grammar.specs.Rows.{Row, Side, place_of, settled}
 use Rattle.book_grammar.specs.Rows.Row.{named}
-use Rattle.book_grammar.specs.Reading.{lost}
+use Rattle.book_grammar.specs.Reading.{lost, lefts}
 use Rattle.book_text.specs.declared.parser.Parser.{Parser}
 use Rattle.book_text.specs.declared.parser.Span.{Span}
 use Rattle.book_text.specs.declared.parser.Label.{Label}
-use Rattle.book_text.specs.Parsers.{label_in, side_in, row_in, rows_view, rows_in}
-use Rattle.book_text.specs.Finding.{first_same}
-use Rattle.book_text.specs.Settling.{settled_row, sides_of, Settles}
-use Rattle.book_text.proofs.Finding.{no_label, none_same, some_same, place_found}
+use Rattle.book_text.specs.Parsers.{side_in, row_in, rows_view, rows_in}
+use Rattle.book_text.specs.Names.{is_named}
+use Rattle.book_text.specs.Settling.{settled_row, sides_of, rows_of, Settled}
+use Rattle.book_text.proofs.Finding.{any_found, place_found}
 use Rattle.book_text.proofs.Naming.{lefts_in}
 use Rattle.book_text.proofs.Rowing.{nowhere, rows_push, length_rows}
 
@@ -30,20 +31,18 @@ settled_plain S text s (Wait k) h = refl
 settled_plain S text s (Sum j k) h = refl
 settled_plain S text s (Name k) h = absurd (h k refl)
 
-module _ (text : List ℕ) (ls : List Label) (x : List ℕ) where
-  pub settled_none : first_same x (map (label_in text) ls) 0 ≡ None → None ≡ settled_row (map (side_in text) ls) (named x)
-  settled_none e = sym (settled_by (map (side_in text) ls) (named x) true
-      (not_from_false _ (ap (any (same x)) (lefts_in text ls) ∙ none_same x (map (label_in text) ls) 0 e)))
-
-  pub settled_some : (j : ℕ) → first_same x (map (label_in text) ls) 0 ≡ Some j → Some (Name (get_or ls j no_label).place) ≡ settled_row (map (side_in text) ls) (named x)
-  settled_some j e =
-      let f = place_found x text ls 0 j e in
-      let z : j - 0 ≡ j = omega arith in
-      ap (λ (k : ℕ). Some (Name k)) (sym (f.2 ∙ ap (λ (i : ℕ). (get_or ls i no_label).place) z))
-      ∙ sym (settled_by (map (side_in text) ls) (named x) false (not_from_true _ (ap (any (same x)) (lefts_in text ls) ∙ some_same x (map (label_in text) ls) 0 j e)))
-
-  pub settled_within : (j : ℕ) → first_same x (map (label_in text) ls) 0 ≡ Some j → j < length ls
-  settled_within j e = let f = (place_found x text ls 0 j e).1 in omega arith
+-- a name leads to the right side of the first equation with it
+pub settled_named : (text : List ℕ) (ls : List Label) (x : List ℕ) (o : Option Label) → find (is_named text x) ls ≡ o
+    → elim o [ None ↦ None | Some l ↦ Some (Name l.place) ] ≡ settled_row (map (side_in text) ls) (named x)
+settled_named text ls x o e =
+    let some : any (same x) (lefts (map (side_in text) ls)) ≡ is_some o = ap (any (same x)) (lefts_in text ls) ∙ any_found text x ls ∙ ap is_some e in
+    let at : place_of (map (side_in text) ls) x ≡ elim o [ None ↦ 0 | Some l ↦ l.place ] = place_found text x ls ∙ ap {B = ℕ} (λ (y : Option Label). elim y [ None ↦ 0 | Some l ↦ l.place ]) e in
+    go o some at
+  where
+    go : (o : Option Label) → any (same x) (lefts (map (side_in text) ls)) ≡ is_some o → place_of (map (side_in text) ls) x ≡ elim o [ None ↦ 0 | Some l ↦ l.place ]
+        → elim o [ None ↦ None | Some l ↦ Some (Name l.place) ] ≡ settled_row (map (side_in text) ls) (named x)
+    go None s h = sym (settled_by (map (side_in text) ls) (named x) true (ap not s))
+    go (Some l) s h = ap (λ (k : ℕ). Some (Name k)) (sym h) ∙ sym (settled_by (map (side_in text) ls) (named x) false (ap not s))
 
 -- what a settled row tells
 some_none : {A : Type 0} (p : Place) → ◌≡◌ {A = Option Place} (Some p) None → A
@@ -135,10 +134,10 @@ module _ (text : List ℕ) (d : Parser) (P₀ : List Place) (few : d.rows ≤ 25
         known = ap (any (lost S)) rows ∙ any_push (lost S) (rows_view text N (take i R₀)) (row_in text (get_or N i nowhere) (get_or R₀ i Nil)) g.known t.0;
       }
 
-  pub settling_lost : (P P' : List Place) (i : ℕ) → i < d.rows
+  pub settling_lost : (P : List Place) (i : ℕ) → i < d.rows
       → None ≡ settled_row (sides_of text d) (row_in text (get_or d.names i nowhere) (get_or P (d.first + i) Nil))
-      → Settling text d P₀ P i → Settles text d P₀ P' false
-  settling_lost P P' i h e g =
+      → Settling text d P₀ P i → any (lost (sides_of text d)) (rows_of text d P₀) ≡ true
+  settling_lost P i h e g =
       let S = sides_of text d in
       let N = d.names in
       let n = length_rows P₀ d.first d.rows room in
@@ -147,7 +146,7 @@ module _ (text : List ℕ) (d : Parser) (P₀ : List Place) (few : d.rows ≤ 25
       ∙ any_at (lost S) (rows_view text N (take i R₀)) (row_in text (get_or N i nowhere) (get_or R₀ i Nil)) (rows_view text (drop (suc i) N) (drop (suc i) R₀))
       (lost_tells S (row_in text (get_or N i nowhere) (get_or R₀ i Nil)) (e ∙ ap (λ (q : Place). settled_row S (row_in text (get_or N i nowhere) q)) r))
 
-  pub settling_all : (P : List Place) (i : ℕ) → i ≡ d.rows → Settling text d P₀ P i → Settles text d P₀ P true
+  pub settling_all : (P : List Place) (i : ℕ) → i ≡ d.rows → Settling text d P₀ P i → Settled text d P₀ P
   settling_all P i e g =
       let n = length_rows P₀ d.first d.rows room in
       let all : take i R₀ ≡ R₀ = take_all i R₀ (omega arith) in (

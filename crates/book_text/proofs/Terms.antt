@@ -1,6 +1,6 @@
 -- Words that complete a term, and parentheses.
-use Rattle.std.proofs.Common.{◌≡◌, ℕ, suc, ◌+◌, ◌-◌, ◌<◌, ◌≤◌, true, false, not, List, [], ◌∷◌, ◌++◌, map, length, get_or, take, set, Ok, Err, Result, sym, refl, ap, ◌∙◌, subst, inl, inr, arith}
-use Rattle.std.proofs.lemmas.List.{length-set, length_push, take_more, take_more_set, take-set-le, map_push}
+use Rattle.std.proofs.Common.{◌≡◌, ℕ, ◌+◌, ◌-◌, ◌<◌, ◌≤◌, true, false, not, List, [], ◌∷◌, ◌++◌, map, length, get_or, take, set, Ok, Err, Result, sym, refl, ap, ◌∙◌, subst, inl, inr, arith}
+use Rattle.std.proofs.lemmas.List.{length-set, length_push, take_all, take_more, take_more_set, take-set-le, map_push, length-take-le}
 use Rattle.std.proofs.lemmas.Bool.{and_from, and_right, and_left}
 use Rattle.book_text.specs.declared.fault.BookFault.{BookFault}
 use Rattle.rows.specs.declared.row.Place.{Place}
@@ -11,7 +11,6 @@ use Rattle.book_words.specs.Words.Kind.{alien, bad, nil, opens, closes, ends}
 use Rattle.book_grammar.specs.Rows.{Row, Side}
 use Rattle.book_grammar.specs.Rows.Row.{plain}
 use Rattle.book_grammar.specs.Reading.{Reading, Open as Entry, on, complete, around, finished, inside, some, behind, sided, is, allowed, moved, long, given, lacking, over, tried}
-use Rattle.book_grammar.specs.Reading.Open.{paren}
 use Rattle.book_grammar.specs.Reading.State.{left, term, after}
 use Rattle.book_grammar.specs.Reading.Step.{stops}
 use Rattle.book_grammar.proofs.Free.{sided_last}
@@ -19,21 +18,18 @@ use Rattle.book_text.specs.declared.parser.Parser.{Parser}
 use Rattle.book_text.specs.declared.parser.Stack.{Stack}
 use Rattle.book_text.specs.declared.parser.Span.{Span}
 use Rattle.book_text.specs.declared.parser.Label.{Label}
-use Rattle.book_text.specs.declared.parser.Open.{Open}
 use Rattle.book_text.specs.declared.parser.State.{State}
 use Rattle.book_text.specs.declared.parser.State.TheVariants.{Left, Term, After}
 use Rattle.book_text.specs.Faults.{number_of, where_of}
 use Rattle.book_text.specs.Faults.Where.{offset_at}
-use Rattle.book_text.specs.Parsers.{floor_of, opened_in, label_in, side_in, rows_view, rows_in, view}
-use Rattle.book_text.specs.Stacks.{closed_rows}
-use Rattle.book_text.specs.Changes.{is_at, closed, waiting_on, Finished, Finishes, TooManyRows}
+use Rattle.book_text.specs.Parsers.{floor_of, opened_on, label_in, side_in, rows_view, rows_in, view}
+use Rattle.book_text.specs.Stacks.{floor, waiting_on, closed_rows}
+use Rattle.book_text.specs.Changes.{is_at, with_stack, with_floors, closed, Finished, Finishes, TooManyRows}
 use Rattle.book_text.specs.Steps.{Tidy, Sound, Steady, Leads}
-use Rattle.book_text.proofs.Finding.{no_label}
-use Rattle.book_text.proofs.Opened.{enclosing, opened_rest, opened_open, tidy_open, tidy_floor, floor_below, around_opened, parens_opened}
+use Rattle.book_text.proofs.Opened.{opened_open, opened_none, opened_closes, tidy_open, tidy_closes, tidy_floor, floor_below, around_opened, parens_opened}
 use Rattle.book_text.proofs.Rowing.{rows_push, finished_opened, length_opened, put_rows}
 use Rattle.book_text.proofs.Trying.{stop_2, stop_7, go_to, leads_to, over_places, over_room, over_parens}
 use Rattle.book_text.proofs.Viewing.{known, places_long, rows_long, front_long, not_over, poised_at, modules_at, lent_at, told_at}
-use Rattle.book_text.proofs.Pushing.{with_stack}
 
 -- a parser with other names
 abbrev pub with_names : List Span → Parser → Parser
@@ -44,55 +40,50 @@ with_names names d = record {
   rows = d.rows;
   names = names;
   lefts = d.lefts;
-  equations = d.equations;
   titles = d.titles;
-  begun = d.begun;
   done = d.done;
 }
 
 -- what a parser behind a complete term stands for
 finished_view : (text : List ℕ) (d : Parser) (s : Stack) (P P' : List Place) (M : List ModuleRow) (R : List Place) (n : ℕ) (d' : Parser)
     → length R + waiting_on s ≤ length d.names → Finished d s P R d' P' n
-    → view text d' P' M ≡ complete (view text d P M) (opened_in s.ops s.floors s.parens s.pending) (rows_view text d.names R)
+    → view text d' P' M ≡ complete (view text d P M) (opened_on s) (rows_view text d.names R)
 unfolding view
 finished_view text d s P P' M R n d' fit f =
     let F : List Entry → List Row → List Place → Reading = λ (es : List Entry) (rs : List Row) (ps : List Place). record {
       state = after;
       opened = es;
       rows = rs;
-      sides = map (side_in text) (take d.equations d.lefts);
-      titles = map (label_in text) (take d.begun d.titles);
+      sides = map (side_in text) d.lefts.items;
+      titles = map (label_in text) d.titles.items;
       places = ps;
       modules = take d.done M;
     } in
-    let low = floor_of s.floors s.parens in
-    let es = opened_in s.ops s.floors s.parens s.pending in
+    let low = floor s in
+    let es = opened_on s in
     ap (λ (x : Parser). view text x P' M) f.parser
-    ∙ ap (λ (x : List Entry). F x (rows_view text d.names (rows_in d.first n P')) (take d.first P')) (sym (around_opened s.ops s.floors s.parens s.pending))
+    ∙ ap (λ (x : List Entry). F x (rows_view text d.names (rows_in d.first n P')) (take d.first P')) (sym (around_opened s.ops s.floors.items (length s.floors.items) s.pending))
     ∙ ap (λ (x : List Place). F (around es) (rows_view text d.names x) (take d.first P')) f.table
-    ∙ ap (λ (x : List Row). F (around es) x (take d.first P')) (sym (finished_opened text d.names s.ops s.floors s.parens s.pending R fit))
+    ∙ ap (λ (x : List Row). F (around es) x (take d.first P')) (sym (finished_opened text d.names s.ops s.floors.items (length s.floors.items) s.pending R fit))
     ∙ ap (λ (x : List Place). F (around es) (finished es (rows_view text d.names R)) x) f.front
 
 -- and that it is steady
 finished_steady : (at : ℕ) (d : Parser) (s : Stack) (P P' : List Place) (M : List ModuleRow) (R : List Place) (n : ℕ) (d' : Parser) → Sound at d
-    → length s.ops ≡ 256 → length s.floors ≡ 32 → s.parens ≤ 32 → s.pending ≤ at → Tidy s.floors s.parens s.pending
-    → 0 < d.equations → d.begun + 0 ≤ 64 → d.begun + 0 ≤ length M → d.done + 1 ≡ d.begun
+    → length s.ops ≡ 256 → length s.floors.items ≤ 32 → s.pending ≤ at → Tidy s.floors.items (length s.floors.items) s.pending
+    → 0 < length d.lefts.items → length d.titles.items + 0 ≤ 64 → length d.titles.items + 0 ≤ length M → d.done + 1 ≡ length d.titles.items
     → Finished d s P R d' P' n → Steady (at + 1) d' (length P) (length M)
-finished_steady at d s P P' M R n d' so ok fk ne sh ti eq fm le to f =
-    let below = floor_below s.floors s.parens s.pending ti in
+finished_steady at d s P P' M R n d' so ok ne sh ti eq fm le to f =
+    let below = floor_below s.floors.items (length s.floors.items) s.pending ti in
     subst (λ (x : Parser). Steady (at + 1) x (length P) (length M)) (sym f.parser)
     (record {
       room = f.room;
       lent = le;
       sound = record {
         ops_kept = ok;
-        floors_kept = fk;
         names_kept = so.names_kept;
-        lefts_kept = so.lefts_kept;
-        titles_kept = so.titles_kept;
         short = omega arith;
         nested = ne;
-        tidy = tidy_floor s.floors s.parens s.pending ti;
+        tidy = tidy_floor s.floors.items (length s.floors.items) s.pending ti;
         poised = (eq, refl);
         few_rows = f.few;
         few_equations = so.few_equations;
@@ -106,34 +97,17 @@ still_within : (text : List ℕ) (at : ℕ) (d' : Parser) (P P' : List Place) (M
 still_within text at d' P P' M e s =
     subst (λ (k : ℕ). over k (length M) (view text d' P' M) ≡ false) e (not_over text at d' P' M (subst (λ (k : ℕ). Steady at d' k (length M)) (sym e) s))
 
-pub opened_none : (os : List Open) (floors : List ℕ) (k n : ℕ) → k ≡ 0 → n ≡ floor_of floors k → opened_in os floors k n ≡ []
-opened_none os floors k n z h = ap (λ (x : ℕ). opened_in os floors k x) h ∙ opened_rest os floors k ∙ ap (λ (x : ℕ). enclosing os floors x) z
-
-opened_closes : (os : List Open) (floors : List ℕ) (k n : ℕ) → 0 < k → n ≡ floor_of floors k → opened_in os floors k n ≡ paren ∷ opened_in os floors (k - 1) n
-opened_closes os floors k n z h =
-    let e : k ≡ suc (k - 1) = omega arith in
-    let q : get_or floors (k - 1) 0 ≡ n = sym (h ∙ ap (λ (x : ℕ). floor_of floors x) e) in
-    ap (λ (x : ℕ). opened_in os floors k x) h ∙ opened_rest os floors k ∙ ap (λ (x : ℕ). enclosing os floors x) e
-    ∙ ap (λ (x : ℕ). paren ∷ opened_in os floors (k - 1) x) q
-
-tidy_closes : (floors : List ℕ) (k n : ℕ) → 0 < k → n ≡ floor_of floors k → Tidy floors k n → Tidy floors (k - 1) n
-tidy_closes floors k n z h t =
-    let e : k ≡ suc (k - 1) = omega arith in
-    let q : get_or floors (k - 1) 0 ≡ n = sym (h ∙ ap (λ (x : ℕ). floor_of floors x) e) in
-    let t' : Tidy floors (suc (k - 1)) n = subst (λ (x : ℕ). Tidy floors x n) e t in
-    subst (λ (x : ℕ). Tidy floors (k - 1) x) q t'.1
-
 module _ (text : List ℕ) (d : Parser) (P : List Place) (M : List ModuleRow) (at : ℕ) (st : Steady at d (length P) (length M)) where
   -- a leaf that passes a limit
   pub leaf_many : (k : Kind) (row : Row) → is k alien ≡ false → allowed (view text d P M) k ≡ true → is k bad ≡ false → long k ≡ false
       → given (view text d P M) k ≡ false → lacking (view text d P M) k ≡ false
       → moved (view text d P M) k ≡ complete (view text d P M) (view text d P M).opened ((view text d P M).rows ++ row ∷ [])
-      → TooManyRows (d.rows + 1 + waiting_on d.stack) d P → tried (length P) (length M) (view text d P M) k ≡ stops 7
+      → TooManyRows (d.rows + 1 + waiting_on d.stack) d.first (length P) → tried (length P) (length M) (view text d P M) k ≡ stops 7
   unfolding view
   leaf_many k row a b c l g f mv h =
       let v = view text d P M in
       let t = complete v v.opened (v.rows ++ row ∷ []) in
-      let n = length_opened d.stack.ops d.stack.floors d.stack.parens d.stack.pending (v.rows ++ row ∷ []) in
+      let n = length_opened d.stack.ops d.stack.floors.items (length d.stack.floors.items) d.stack.pending (v.rows ++ row ∷ []) in
       let u = length_push v.rows row in
       let r = rows_long text at d P M st in
       let w = front_long text at d P M st in
@@ -162,10 +136,7 @@ module _ (text : List ℕ) (d : Parser) (P : List Place) (M : List ModuleRow) (a
       let s' = finished_steady at (with_names names d) d.stack P P' M (R ++ leaf ∷ []) (d.rows + 1 + waiting_on d.stack) d'
       (record {
         ops_kept = so.ops_kept;
-        floors_kept = so.floors_kept;
         names_kept = kept;
-        lefts_kept = so.lefts_kept;
-        titles_kept = so.titles_kept;
         short = so.short;
         nested = so.nested;
         tidy = so.tidy;
@@ -175,7 +146,7 @@ module _ (text : List ℕ) (d : Parser) (P : List Place) (M : List ModuleRow) (a
         few_modules = so.few_modules;
         told = so.told;
       })
-      so.ops_kept so.floors_kept so.nested so.short so.tidy (poised_at text at d P M st Term q) (modules_at text at d P M st Term q)
+      so.ops_kept so.nested so.short so.tidy (poised_at text at d P M st Term q) (modules_at text at d P M st Term q)
       (lent_at text at d P M st Term q) (told_at text at d P M st Term q) fin in
       leads_to (length P) (length M) v k (length text) at (view text d' P' M) d'
       (go_to (length P) (length M) v k (view text d' P' M) a b c l g f e (still_within text (at + 1) d' P P' M fin.size s')) s'
@@ -184,7 +155,7 @@ module _ (text : List ℕ) (d : Parser) (P : List Place) (M : List ModuleRow) (a
   unfolding view
   nil_no h = stop_2 (length P) (length M) (view text d P M) nil refl h
 
-  pub nil_many : is_at d.state Term ≡ true → TooManyRows (d.rows + 1 + waiting_on d.stack) d P → tried (length P) (length M) (view text d P M) nil ≡ stops 7
+  pub nil_many : is_at d.state Term ≡ true → TooManyRows (d.rows + 1 + waiting_on d.stack) d.first (length P) → tried (length P) (length M) (view text d P M) nil ≡ stops 7
   unfolding view
   nil_many h g = leaf_many nil (plain Nil) refl h refl refl refl refl refl g
 
@@ -204,40 +175,37 @@ module _ (text : List ℕ) (d : Parser) (P : List Place) (M : List ModuleRow) (a
   unfolding view
   opens_no h = stop_2 (length P) (length M) (view text d P M) opens refl h
 
-  pub opens_many : is_at d.state Term ≡ true → 32 ≤ d.stack.parens → tried (length P) (length M) (view text d P M) opens ≡ stops 7
+  pub opens_many : is_at d.state Term ≡ true → 32 ≤ length d.stack.floors.items → tried (length P) (length M) (view text d P M) opens ≡ stops 7
   unfolding view
   opens_many h g =
-      let e = parens_opened d.stack.ops d.stack.floors d.stack.parens d.stack.pending in
+      let e = parens_opened d.stack.ops d.stack.floors.items (length d.stack.floors.items) d.stack.pending in
       stop_7 (length P) (length M) (view text d P M) opens refl h refl refl refl refl
       (over_parens (length P) (length M) (moved (view text d P M) opens) (omega arith))
 
-  pub opens_ok : (s : Stack) → is_at d.state Term ≡ true → d.stack.parens < 32
-      → s ≡ record { ops = d.stack.ops; pending = d.stack.pending; floors = set d.stack.floors d.stack.parens d.stack.pending; parens = d.stack.parens + 1 }
-      → Leads (length P) (length M) (length text) (view text d P M) opens at (view text (with_stack d.state s d) P M) (with_stack d.state s d) (Ok tt)
+  abbrev pub opened_with : List ℕ → Parser
+  opened_with floors = with_stack d.state (with_floors floors d.stack) d
+
+  pub opens_ok : (floors : List ℕ) → is_at d.state Term ≡ true → length d.stack.floors.items < 32 → floors ≡ d.stack.floors.items ++ d.stack.pending ∷ []
+      → Leads (length P) (length M) (length text) (view text d P M) opens at (view text (opened_with floors) P M) (opened_with floors) (Ok tt)
   unfolding view
-  opens_ok s h g i =
+  opens_ok floors h g i =
       let v = view text d P M in
       let so = st.sound in
       let sh = so.short in
-      let kept = so.floors_kept in
       let n = d.stack.pending in
-      let k = d.stack.parens in
+      let fs = d.stack.floors.items ++ n ∷ [] in
       let q = known d.state Term h in
-      let z : k + 1 ≡ suc k = omega arith in
-      let s₁ : Stack = record { ops = d.stack.ops; pending = n; floors = set d.stack.floors k n; parens = k + 1 } in
+      let s₁ : Stack = with_floors fs d.stack in
       let d₁ = with_stack Term s₁ d in
       let st₁ : Steady (at + 1) d₁ (length P) (length M) = record {
         room = st.room;
         lent = lent_at text at d P M st Term q;
         sound = record {
           ops_kept = so.ops_kept;
-          floors_kept = length-set d.stack.floors k n ∙ kept;
           names_kept = so.names_kept;
-          lefts_kept = so.lefts_kept;
-          titles_kept = so.titles_kept;
           short = omega arith;
-          nested = omega arith;
-          tidy = subst (λ (x : ℕ). Tidy (set d.stack.floors k n) x n) (sym z) (tidy_open d.stack.floors k n (omega arith) so.tidy);
+          nested = omega (arith, length_push d.stack.floors.items n);
+          tidy = tidy_open d.stack.floors.items n so.tidy;
           poised = poised_at text at d P M st Term q;
           few_rows = so.few_rows;
           few_equations = so.few_equations;
@@ -245,11 +213,11 @@ module _ (text : List ℕ) (d : Parser) (P : List Place) (M : List ModuleRow) (a
           told = told_at text at d P M st Term q;
         };
       } in
-      let e : moved v opens ≡ view text d₁ P M =
-      ap (λ (es : List Entry). on v term es v.rows) (sym (ap (λ (x : ℕ). opened_in d.stack.ops (set d.stack.floors k n) x n) z ∙ opened_open d.stack.ops d.stack.floors k n (omega arith))) in
+      let e : moved v opens ≡ view text d₁ P M = ap (λ (es : List Entry). on v term es v.rows) (sym (opened_open d.stack.ops d.stack.floors.items n)) in
       let r = leads_to (length P) (length M) v opens (length text) at (view text d₁ P M) d₁
       (go_to (length P) (length M) v opens (view text d₁ P M) refl h refl refl refl refl e (not_over text (at + 1) d₁ P M st₁)) st₁ in
-      let same : d₁ ≡ with_stack d.state s d = ap (λ (x : Stack). with_stack Term x d) (sym i) ∙ ap (λ (x : State). with_stack x s d) (sym q) in
+      let same : d₁ ≡ opened_with floors = ap (λ (x : List ℕ). with_stack Term (with_floors x d.stack) d) (sym i)
+      ∙ ap (λ (x : State). with_stack x (with_floors floors d.stack) d) (sym q) in
       subst (λ (x : Parser). Leads (length P) (length M) (length text) v opens at (view text x P M) x (Ok tt)) same r
 
   -- `)`
@@ -257,41 +225,41 @@ module _ (text : List ℕ) (d : Parser) (P : List Place) (M : List ModuleRow) (a
   unfolding view
   closes_no h = stop_2 (length P) (length M) (view text d P M) closes refl (and_left _ _ h)
 
-  pub closes_none : is_at d.state After ≡ true → d.stack.parens ≡ 0 → tried (length P) (length M) (view text d P M) closes ≡ stops 2
+  pub closes_none : is_at d.state After ≡ true → length d.stack.floors.items ≡ 0 → tried (length P) (length M) (view text d P M) closes ≡ stops 2
   unfolding view
   closes_none h z =
       let q = poised_at text at d P M st After (known d.state After h) in
       stop_2 (length P) (length M) (view text d P M) closes refl
-      (and_right (is_at d.state After) _ (ap inside (opened_none d.stack.ops d.stack.floors d.stack.parens d.stack.pending z q.1)))
+      (and_right (is_at d.state After) _ (ap inside (opened_none d.stack.ops d.stack.floors.items d.stack.pending z q.1)))
 
-  closes_allowed : is_at d.state After ≡ true → 0 < d.stack.parens → allowed (view text d P M) closes ≡ true
+  closes_allowed : is_at d.state After ≡ true → 0 < length d.stack.floors.items → allowed (view text d P M) closes ≡ true
   unfolding view
   closes_allowed h z =
       let q = poised_at text at d P M st After (known d.state After h) in
-      and_from (is_at d.state After) _ h (ap inside (opened_closes d.stack.ops d.stack.floors d.stack.parens d.stack.pending z q.1))
+      and_from (is_at d.state After) _ h (ap inside (opened_closes d.stack.floors.items d.stack.pending z q.1 d.stack.ops))
 
-  closes_moved : is_at d.state After ≡ true → 0 < d.stack.parens
-      → moved (view text d P M) closes ≡ complete (view text d P M) (opened_in d.stack.ops d.stack.floors (d.stack.parens - 1) d.stack.pending) (view text d P M).rows
+  closes_moved : is_at d.state After ≡ true → 0 < length d.stack.floors.items
+      → moved (view text d P M) closes ≡ complete (view text d P M) (opened_on (closed d.stack)) (view text d P M).rows
   unfolding view
   closes_moved h z =
       let q = poised_at text at d P M st After (known d.state After h) in
       let v = view text d P M in
-      ap (λ (es : List Entry). complete v (behind es) v.rows) (opened_closes d.stack.ops d.stack.floors d.stack.parens d.stack.pending z q.1)
+      ap (λ (es : List Entry). complete v (behind es) v.rows) (opened_closes d.stack.floors.items d.stack.pending z q.1 d.stack.ops)
 
-  pub closes_many : is_at d.state After ≡ true → 0 < d.stack.parens → TooManyRows (d.rows + waiting_on (closed d.stack)) d P
+  pub closes_many : is_at d.state After ≡ true → 0 < length d.stack.floors.items → TooManyRows (d.rows + waiting_on (closed d.stack)) d.first (length P)
       → tried (length P) (length M) (view text d P M) closes ≡ stops 7
   unfolding view
   closes_many h z g =
       let v = view text d P M in
-      let es = opened_in d.stack.ops d.stack.floors (d.stack.parens - 1) d.stack.pending in
+      let es = opened_on (closed d.stack) in
       let t = complete v es v.rows in
-      let n = length_opened d.stack.ops d.stack.floors (d.stack.parens - 1) d.stack.pending v.rows in
+      let n = length_opened d.stack.ops (closed d.stack).floors.items (length (closed d.stack).floors.items) d.stack.pending v.rows in
       let r = rows_long text at d P M st in
       let w = front_long text at d P M st in
       stop_7 (length P) (length M) v closes refl (closes_allowed h z) refl refl refl refl (ap (λ (s : Reading). over (length P) (length M) s) (closes_moved h z)
       ∙ elim g [ inl i ↦ over_places (length P) (length M) t (omega arith) | inr i ↦ over_room (length P) (length M) t (omega arith) ])
 
-  pub closes_ok : (d' : Parser) (P' : List Place) → is_at d.state After ≡ true → 0 < d.stack.parens
+  pub closes_ok : (d' : Parser) (P' : List Place) → is_at d.state After ≡ true → 0 < length d.stack.floors.items
       → Finished (with_stack d.state (closed d.stack) d) (closed d.stack) P (rows_in d.first d.rows P) d' P' (d.rows + waiting_on (closed d.stack))
       → Leads (length P) (length M) (length text) (view text d P M) closes at (view text d' P' M) d' (Ok tt)
   unfolding view
@@ -307,25 +275,22 @@ module _ (text : List ℕ) (d : Parser) (P : List Place) (M : List ModuleRow) (a
       let q = poised_at text at d P M st After qe in
       let s₁ = closed d.stack in
       let d₁ = with_stack d.state s₁ d in
-      let ti = tidy_closes d.stack.floors d.stack.parens d.stack.pending z q.1 so.tidy in
+      let ti = tidy_closes d.stack.floors.items d.stack.pending z q.1 so.tidy in
       let e : moved v closes ≡ view text d' P' M = closes_moved h z
       ∙ sym (finished_view text d₁ s₁ P P' M R (d.rows + waiting_on s₁) d' (omega arith) fin) in
       let s' : Steady (at + 1) d' (length P) (length M) =
       subst (λ (x : Parser). Steady (at + 1) x (length P) (length M)) (sym fin.parser)
-      (let below = floor_below d.stack.floors (d.stack.parens - 1) d.stack.pending ti in
+      (let below = floor_below s₁.floors.items (length s₁.floors.items) d.stack.pending ti in
       let sh = so.short in
       record {
         room = fin.room;
         lent = lent_at text at d P M st After qe;
         sound = record {
           ops_kept = so.ops_kept;
-          floors_kept = so.floors_kept;
           names_kept = so.names_kept;
-          lefts_kept = so.lefts_kept;
-          titles_kept = so.titles_kept;
           short = omega arith;
-          nested = omega arith;
-          tidy = tidy_floor d.stack.floors (d.stack.parens - 1) d.stack.pending ti;
+          nested = omega (arith, length-take-le (length d.stack.floors.items - 1) d.stack.floors.items);
+          tidy = tidy_floor s₁.floors.items (length s₁.floors.items) d.stack.pending ti;
           poised = (q.0, refl);
           few_rows = fin.few;
           few_equations = so.few_equations;
@@ -341,51 +306,49 @@ module _ (text : List ℕ) (d : Parser) (P : List Place) (M : List ModuleRow) (a
   unfolding view
   ends_no h = stop_2 (length P) (length M) (view text d P M) ends refl (and_left _ _ h)
 
-  pub ends_inside : is_at d.state After ≡ true → 0 < d.stack.parens → tried (length P) (length M) (view text d P M) ends ≡ stops 2
+  pub ends_inside : is_at d.state After ≡ true → 0 < length d.stack.floors.items → tried (length P) (length M) (view text d P M) ends ≡ stops 2
   unfolding view
   ends_inside h z =
       let q = poised_at text at d P M st After (known d.state After h) in
       stop_2 (length P) (length M) (view text d P M) ends refl
-      (and_right (is_at d.state After) _ (ap (λ (es : List Entry). not (some es)) (opened_closes d.stack.ops d.stack.floors d.stack.parens d.stack.pending z q.1)))
+      (and_right (is_at d.state After) _ (ap (λ (es : List Entry). not (some es)) (opened_closes d.stack.floors.items d.stack.pending z q.1 d.stack.ops)))
 
   -- a parser whose newest left side has its right side
-  abbrev pub sided_in : ℕ → Parser
-  sided_in k = record {
+  abbrev pub sided_in : List Label → Parser
+  sided_in ls = record {
     state = Left;
     stack = d.stack;
     first = d.first;
     rows = d.rows;
     names = d.names;
-    lefts = set d.lefts (d.equations - 1) (record { name = (get_or d.lefts (d.equations - 1) no_label).name; place = k });
-    equations = d.equations;
+    lefts = record { items = ls };
     titles = d.titles;
-    begun = d.begun;
     done = d.done;
   }
 
-  pub ends_ok : (k : ℕ) → k ≡ d.rows - 1 → is_at d.state After ≡ true → d.stack.parens ≡ 0
-      → Leads (length P) (length M) (length text) (view text d P M) ends at (view text (sided_in k) P M) (sided_in k) (Ok tt)
+  pub some_left : is_at d.state After ≡ true → 0 < length d.lefts.items
+  some_left h = (poised_at text at d P M st After (known d.state After h)).0
+
+  ends_ok : (k : ℕ) (ls : List Label) (l : Label) → k ≡ d.rows - 1 → is_at d.state After ≡ true → length d.stack.floors.items ≡ 0 → d.lefts.items ≡ ls ++ l ∷ []
+      → Leads (length P) (length M) (length text) (view text d P M) ends at
+      (view text (sided_in (ls ++ record { name = l.name; place = k } ∷ [])) P M) (sided_in (ls ++ record { name = l.name; place = k } ∷ [])) (Ok tt)
   unfolding view
-  ends_ok k i h z =
+  ends_ok k ls l i h z split =
       let v = view text d P M in
       let so = st.sound in
       let qe = known d.state After h in
       let q = poised_at text at d P M st After qe in
-      let pos : 0 < d.equations = q.0 in
-      let n = d.equations - 1 in
       let fe = so.few_equations in
-      let kept = so.lefts_kept in
       let r = rows_long text at d P M st in
       let sh = so.short in
-      let l = get_or d.lefts n no_label in
       let l' : Label = record { name = l.name; place = k } in
-      let one : d.equations ≡ n + 1 = omega arith in
-      let was : map (side_in text) (take d.equations d.lefts) ≡ map (side_in text) (take n d.lefts) ++ side_in text l ∷ [] =
-      ap (λ (x : ℕ). map (side_in text) (take x d.lefts)) one ∙ ap (map (side_in text)) (take_more d.lefts n no_label (omega arith)) ∙ map_push (side_in text) (take n d.lefts) l in
-      let is' : map (side_in text) (take d.equations (set d.lefts n l')) ≡ map (side_in text) (take n d.lefts) ++ side_in text l' ∷ [] =
-      ap (λ (x : ℕ). map (side_in text) (take x (set d.lefts n l'))) one ∙ ap (map (side_in text)) (take_more_set d.lefts n l' (omega arith)) ∙ map_push (side_in text) (take n d.lefts) l' in
-      let none = opened_none d.stack.ops d.stack.floors d.stack.parens d.stack.pending z q.1 in
-      let f0 : floor_of d.stack.floors d.stack.parens ≡ 0 = ap (λ (x : ℕ). floor_of d.stack.floors x) z in
+      let d' = sided_in (ls ++ l' ∷ []) in
+      let a = length_push ls l in
+      let b = length_push ls l' in
+      let long : length (ls ++ l' ∷ []) ≡ length d.lefts.items = omega (arith, ap length split) in
+      let was : map (side_in text) d.lefts.items ≡ map (side_in text) ls ++ side_in text l ∷ [] = ap (map (side_in text)) split ∙ map_push (side_in text) ls l in
+      let none = opened_none d.stack.ops d.stack.floors.items d.stack.pending z q.1 in
+      let f0 : floor d.stack ≡ 0 = ap (λ (x : ℕ). floor_of d.stack.floors.items x) z in
       let nw : length v.rows - 1 ≡ k = omega arith in
       let F : List Entry → List Side → Reading = λ (es : List Entry) (ss : List Side). record {
         state = left;
@@ -396,33 +359,44 @@ module _ (text : List ℕ) (d : Parser) (P : List Place) (M : List ModuleRow) (a
         places = v.places;
         modules = v.modules;
       } in
-      let e : moved v ends ≡ view text (sided_in k) P M =
+      let e : moved v ends ≡ view text d' P M =
       ap (λ (x : ℕ). F [] (sided v.sides x)) nw
       ∙ ap (λ (x : List Side). F [] (sided x k)) was
-      ∙ ap (λ (x : List Side). F [] x) (sided_last (map (side_in text) (take n d.lefts)) (label_in text l) l.place k ∙ sym is')
-      ∙ ap (λ (x : List Entry). F x (map (side_in text) (take d.equations (set d.lefts n l')))) (sym none) in
-      let s' : Steady (at + 1) (sided_in k) (length P) (length M) = record {
+      ∙ ap (λ (x : List Side). F [] x) (sided_last (map (side_in text) ls) (label_in text l) l.place k ∙ sym (map_push (side_in text) ls l'))
+      ∙ ap (λ (x : List Entry). F x (map (side_in text) (ls ++ l' ∷ []))) (sym none) in
+      let s' : Steady (at + 1) d' (length P) (length M) = record {
         room = st.room;
         lent = lent_at text at d P M st After qe;
         sound = record {
           ops_kept = so.ops_kept;
-          floors_kept = so.floors_kept;
           names_kept = so.names_kept;
-          lefts_kept = length-set d.lefts n l' ∙ kept;
-          titles_kept = so.titles_kept;
           short = omega arith;
           nested = so.nested;
           tidy = so.tidy;
           poised = (q.1 ∙ f0, z);
           few_rows = so.few_rows;
-          few_equations = fe;
+          few_equations = omega arith;
           few_modules = modules_at text at d P M st After qe;
           told = told_at text at d P M st After qe;
         };
       } in
-      leads_to (length P) (length M) v ends (length text) at (view text (sided_in k) P M) (sided_in k)
-      (go_to (length P) (length M) v ends (view text (sided_in k) P M) refl
-      (and_from (is_at d.state After) _ h (ap (λ (es : List Entry). not (some es)) none)) refl refl refl refl e (not_over text (at + 1) (sided_in k) P M s')) s'
+      leads_to (length P) (length M) v ends (length text) at (view text d' P M) d'
+      (go_to (length P) (length M) v ends (view text d' P M) refl
+      (and_from (is_at d.state After) _ h (ap (λ (es : List Entry). not (some es)) none)) refl refl refl refl e (not_over text (at + 1) d' P M s')) s'
+
+  -- the newest left side is the last
+  pub ends_at : (k n : ℕ) (l : Label) → k ≡ d.rows - 1 → n ≡ length d.lefts.items - 1 → is_at d.state After ≡ true → length d.stack.floors.items ≡ 0 → l ≡ get_or d.lefts.items n l
+      → Leads (length P) (length M) (length text) (view text d P M) ends at
+      (view text (sided_in (set d.lefts.items n (record { name = l.name; place = k }))) P M) (sided_in (set d.lefts.items n (record { name = l.name; place = k }))) (Ok tt)
+  ends_at k n l i j h z e =
+      let ls = d.lefts.items in
+      let l' : Label = record { name = l.name; place = k } in
+      let some = some_left h in
+      let was : ls ≡ take n ls ++ l ∷ [] = sym (take_all (n + 1) ls (omega arith)) ∙ take_more ls n l (omega arith) ∙ ap (λ (x : Label). take n ls ++ x ∷ []) (sym e) in
+      let now : set ls n l' ≡ take n ls ++ l' ∷ [] =
+      sym (take_all (n + 1) (set ls n l') (omega (arith, length-set ls n l'))) ∙ take_more_set ls n l' (omega arith) in
+      subst (λ (x : List Label). Leads (length P) (length M) (length text) (view text d P M) ends at (view text (sided_in x) P M) (sided_in x) (Ok tt)) (sym now)
+      (ends_ok k (take n ls) l i h z was)
 
   -- what the end of a term leads to
   pub nil_does : (d' : Parser) (P' : List Place) (r : Result (Unit {0}) BookFault) → is_at d.state Term ≡ true
@@ -432,28 +406,41 @@ module _ (text : List ℕ) (d : Parser) (P : List Place) (M : List ModuleRow) (a
   nil_does d' P' (Err f) h g =
       subst (λ (x : BookFault). (tried (length P) (length M) (view text d P M) nil ≡ stops (number_of x)) × (where_of x ≡ offset_at at)) (sym g.0) (nil_many h g.1, refl)
 
-  pub closes_does : (d' : Parser) (P' : List Place) (r : Result (Unit {0}) BookFault) → is_at d.state After ≡ true → 0 < d.stack.parens
+  pub closes_does : (d' : Parser) (P' : List Place) (r : Result (Unit {0}) BookFault) → is_at d.state After ≡ true → 0 < length d.stack.floors.items
       → Finishes (with_stack d.state (closed d.stack) d) (closed d.stack) P (rows_in d.first d.rows P) at d' P' (d.rows + waiting_on (closed d.stack)) r
       → Leads (length P) (length M) (length text) (view text d P M) closes at (view text d' P' M) d' r
   closes_does d' P' (Ok done) h z g = closes_ok d' P' h z g
   closes_does d' P' (Err f) h z g =
       subst (λ (x : BookFault). (tried (length P) (length M) (view text d P M) closes ≡ stops (number_of x)) × (where_of x ≡ offset_at at)) (sym g.0) (closes_many h z g.1, refl)
 
+-- a parser with more rows
+abbrev pub with_rows : ℕ → Parser → Parser
+with_rows rows d = record {
+  state = d.state;
+  stack = d.stack;
+  first = d.first;
+  rows = rows;
+  names = d.names;
+  lefts = d.lefts;
+  titles = d.titles;
+  done = d.done;
+}
+
 -- a leaf that is written, and then finished
-pub leaf_put : (d : Parser) (s : Stack) (P : List Place) (leaf : Place) (at : ℕ) (d' : Parser) (P' : List Place) (n : ℕ) (r : Result (Unit {0}) BookFault)
+pub leaf_put : (d : Parser) (P : List Place) (leaf : Place) (at : ℕ) (d' : Parser) (P' : List Place) (n : ℕ) (r : Result (Unit {0}) BookFault)
     → d.first + d.rows < length P
-    → Finishes d s (set P (d.first + d.rows) leaf) (rows_in d.first (d.rows + 1) (set P (d.first + d.rows) leaf)) at d' P' n r
-    → Finishes d s P (rows_in d.first d.rows P ++ leaf ∷ []) at d' P' n r
-leaf_put d s P leaf at d' P' n (Ok done) h g =
+    → Finishes (with_rows (d.rows + 1) d) d.stack (set P (d.first + d.rows) leaf) (rows_in d.first (d.rows + 1) (set P (d.first + d.rows) leaf)) at d' P' n r
+    → Finishes d d.stack P (rows_in d.first d.rows P ++ leaf ∷ []) at d' P' n r
+leaf_put d P leaf at d' P' n (Ok done) h g =
     let l = length-set P (d.first + d.rows) leaf in
     record {
       parser = g.parser;
       few = g.few;
       room = (let r = g.room in omega arith);
-      table = g.table ∙ ap (λ (R : List Place). closed_rows s.ops (floor_of s.floors s.parens) (waiting_on s) R) (put_rows P d.first d.rows leaf h);
+      table = g.table ∙ ap (λ (R : List Place). closed_rows d.stack.ops (floor d.stack) (waiting_on d.stack) R) (put_rows P d.first d.rows leaf h);
       front = g.front ∙ take-set-le d.first P (d.first + d.rows) leaf (omega arith);
       size = g.size ∙ l;
     }
-leaf_put d s P leaf at d' P' n (Err f) h g =
+leaf_put d P leaf at d' P' n (Err f) h g =
     let l = length-set P (d.first + d.rows) leaf in
     (g.0, elim g.1 [ inl i ↦ inl i | inr i ↦ inr (omega arith) ])

@@ -1,11 +1,19 @@
 -- What a word that is tried leads to, by the tests that decide it.
-use Rattle.std.proofs.Common.{◌≡◌, ℕ, ◌+◌, ◌<◌, Bool, true, false, ltb, length, Ok, refl, ap, ◌∙◌}
+use Rattle.std.proofs.Common.{◌≡◌, ℕ, ◌+◌, ◌<◌, Bool, true, false, ltb, List, length, IsErrAnd, Ok, Result, sym, refl, ap, ◌∙◌, subst}
 use Rattle.std.proofs.lemmas.Bool.{or_left, or_right, lt-ltb}
+use Rattle.std.proofs.lemmas.Result.{err_from_is_err_and}
 use Rattle.book_words.specs.Words.{Kind}
 use Rattle.book_words.specs.Words.Kind.{alien, bad}
 use Rattle.book_grammar.specs.Reading.{Reading, Step, is, allowed, moved, long, given, lacking, over, begun, parens, smallest, tried}
 use Rattle.book_grammar.specs.Reading.Step.{stops, goes}
+use Rattle.book_text.specs.declared.fault.BookFault.{BookFault}
+use Rattle.book_text.specs.declared.fault.BookFault.TheVariants.{NotAllowed, NoEquation}
 use Rattle.book_text.specs.declared.parser.Parser.{Parser}
+use Rattle.rows.specs.declared.row.Place.{Place}
+use Rattle.rows.specs.declared.row.ModuleRow.{ModuleRow}
+use Rattle.book_text.specs.Parsers.{view}
+use Rattle.book_text.specs.Faults.{number_of, where_of}
+use Rattle.book_text.specs.Faults.Where.{offset_at}
 use Rattle.book_text.specs.Steps.{Steady, going_on, Leads}
 
 rewritten : (a b c d e f g a' b' c' d' e' f' g' : Bool) (t : Reading) → a ≡ a' → b ≡ b' → c ≡ c' → d ≡ d' → e ≡ e' → f ≡ f' → g ≡ g'
@@ -48,6 +56,27 @@ module _ (p m : ℕ) (v : Reading) (k : Kind) where
 
   pub leads_to : (end at : ℕ) (v' : Reading) (d' : Parser) → tried p m v k ≡ goes v' → Steady (at + 1) d' p m → Leads p m end v k at v' d' (Ok tt)
   leads_to end at v' d' e s = (λ ws. ap (λ (x : Step). going_on p m end at ws x) e, s)
+
+-- a word that is refused
+module _ (p m end : ℕ) (v : Reading) (k : Kind) (at : ℕ) (v' : Reading) (d' : Parser) (f : BookFault) (r : Result (Unit {0}) BookFault) where
+  pub refuses : IsErrAnd r (λ (y : BookFault). y ≡ f) → (tried p m v k ≡ stops (number_of f)) × (where_of f ≡ offset_at at) → Leads p m end v k at v' d' r
+  refuses b h =
+      let q = err_from_is_err_and r b in
+      subst (λ (y : Result (Unit {0}) BookFault). Leads p m end v k at v' d' y) (sym q.1)
+      (subst (λ (y : BookFault). (tried p m v k ≡ stops (number_of y)) × (where_of y ≡ offset_at at)) (sym q.2) h)
+
+-- since a name has no equation
+pub lacks : (p m : ℕ) (v : Reading) (k : Kind) (at : ℕ) (f : BookFault) → tried p m v k ≡ stops 6 → f ≡ NoEquation at
+    → (tried p m v k ≡ stops (number_of f)) × (where_of f ≡ offset_at at)
+lacks p m v k at f h e = subst (λ (y : BookFault). (tried p m v k ≡ stops (number_of y)) × (where_of y ≡ offset_at at)) (sym e) (h, refl)
+
+-- since it is not allowed, by a parser that stays as it is
+pub not_here : (text : List ℕ) (d : Parser) (P : List Place) (M : List ModuleRow) (k : Kind) (at : ℕ) (f : BookFault) (r : Result (Unit {0}) BookFault)
+    → IsErrAnd r (λ (y : BookFault). y ≡ f) → tried (length P) (length M) (view text d P M) k ≡ stops 2 → f ≡ NotAllowed at
+    → Leads (length P) (length M) (length text) (view text d P M) k at (view text d P M) d r
+not_here text d P M k at f r b h e =
+    refuses (length P) (length M) (length text) (view text d P M) k at (view text d P M) d f r b
+    (subst (λ (y : BookFault). (tried (length P) (length M) (view text d P M) k ≡ stops (number_of y)) × (where_of y ≡ offset_at at)) (sym e) (h, refl))
 
 -- over a limit
 module _ (p m : ℕ) (s : Reading) where

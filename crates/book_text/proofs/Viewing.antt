@@ -1,18 +1,20 @@
 -- What a steady parser stands for.
-use Rattle.std.proofs.Common.{◌≡◌, ℕ, ◌+◌, ◌≤◌, true, false, eqb, List, map, length, take, sym, refl, ap, ◌∙◌, subst, arith}
+use Rattle.std.proofs.Common.{◌≡◌, ℕ, ◌+◌, ◌≤◌, true, false, eqb, List, [], map, length, take, sym, refl, ap, ◌∙◌, subst, arith}
 use Rattle.std.proofs.lemmas.List.{length-map, length-take-le}
 use Rattle.rows.specs.declared.row.Place.{Place}
 use Rattle.rows.specs.declared.row.ModuleRow.{ModuleRow}
-use Rattle.book_grammar.specs.Reading.{State as Stage, state_number, over, begun}
+use Rattle.book_grammar.specs.Reading.{Reading, Open as Entry, State as Stage, state_number, over, begun}
+use Rattle.book_grammar.specs.Rows.{Row, Side}
 use Rattle.book_grammar.specs.Reading.State.{outside, title, brace, left, equal, term, point, after}
 use Rattle.book_grammar.proofs.Bounds.{Bounds, within_bounds}
 use Rattle.book_grammar.proofs.Viable.{state_is}
+use Rattle.book_text.specs.declared.parser.Label.{Label}
 use Rattle.book_text.specs.declared.parser.Parser.{Parser}
 use Rattle.book_text.specs.declared.parser.State.{State}
 use Rattle.book_text.specs.declared.parser.State.TheVariants.{Outside, Title, Brace, Left, Equal, Term, Point, After}
-use Rattle.book_text.specs.Parsers.{state_of_stage, label_in, side_in, rows_view, rows_in, view}
+use Rattle.book_text.specs.Parsers.{state_of_stage, above, opened_in, opened_on, label_in, side_in, rows_view, rows_in, view}
 use Rattle.book_text.specs.Changes.{is_at, in_state}
-use Rattle.book_text.specs.Steps.{Poised, unnamed, unfinished, Steady}
+use Rattle.book_text.specs.Steps.{Tidy, Poised, unnamed, unfinished, Steady, Blank}
 use Rattle.book_text.proofs.Opened.{parens_opened}
 use Rattle.book_text.proofs.Rowing.{rows_length, length_rows}
 
@@ -52,17 +54,11 @@ awaiting Point = refl
 awaiting After = refl
 
 module _ (text : List ℕ) (n : ℕ) (d : Parser) (P : List Place) (M : List ModuleRow) (st : Steady n d (length P) (length M)) where
-  pub titles_long : length (map (label_in text) (take d.begun d.titles)) ≡ d.begun
-  titles_long =
-      let few = st.sound.few_modules in
-      let kept = st.sound.titles_kept in
-      length-map (take d.begun d.titles) (label_in text) ∙ length-take-le d.begun d.titles (omega arith)
+  pub titles_long : length (map (label_in text) d.titles.items) ≡ length d.titles.items
+  titles_long = length-map d.titles.items (label_in text)
 
-  pub sides_long : length (map (side_in text) (take d.equations d.lefts)) ≡ d.equations
-  sides_long =
-      let few = st.sound.few_equations in
-      let kept = st.sound.lefts_kept in
-      length-map (take d.equations d.lefts) (side_in text) ∙ length-take-le d.equations d.lefts (omega arith)
+  pub sides_long : length (map (side_in text) d.lefts.items) ≡ length d.lefts.items
+  sides_long = length-map d.lefts.items (side_in text)
 
   pub places_long : length (rows_in d.first d.rows P) ≡ d.rows
   places_long = length_rows P d.first d.rows st.room
@@ -77,11 +73,11 @@ module _ (text : List ℕ) (n : ℕ) (d : Parser) (P : List Place) (M : List Mod
   pub front_long : length (take d.first P) ≡ d.first
   front_long = let r = st.room in length-take-le d.first P (omega arith)
 
-  pub begun_is : begun (view text d P M) ≡ d.begun + unnamed d.state
+  pub begun_is : begun (view text d P M) ≡ length d.titles.items + unnamed d.state
   unfolding view
   begun_is =
       ap {B = ℕ} (λ (k : ℕ). k + elim (eqb (state_number (state_of_stage d.state)) 1) [ true ↦ 1 | false ↦ 0 ]) titles_long
-      ∙ ap (λ (k : ℕ). d.begun + k) (awaiting d.state)
+      ∙ ap (λ (k : ℕ). length d.titles.items + k) (awaiting d.state)
 
   -- it is over no limit
   pub within : Bounds (length P) (length M) (view text d P M)
@@ -92,14 +88,14 @@ module _ (text : List ℕ) (n : ℕ) (d : Parser) (P : List Place) (M : List Mod
     sides = subst (λ (k : ℕ). k ≤ 64) (sym sides_long) st.sound.few_equations;
     rows = subst (λ (k : ℕ). k ≤ 256) (sym rows_long) st.sound.few_rows;
     room = (let a = front_long in let b = rows_long in let r = st.room in omega arith);
-    nested = subst (λ (k : ℕ). k ≤ 32) (sym (parens_opened d.stack.ops d.stack.floors d.stack.parens d.stack.pending)) st.sound.nested;
+    nested = subst (λ (k : ℕ). k ≤ 32) (sym (parens_opened d.stack.ops d.stack.floors.items (length d.stack.floors.items) d.stack.pending)) st.sound.nested;
   }
 
   pub not_over : over (length P) (length M) (view text d P M) ≡ false
   not_over = within_bounds (length P) (length M) (view text d P M) within
 
   -- another state
-  pub steady_in : (k : ℕ) (q : State) → n ≤ k → Poised q d.stack d.equations → d.begun + unnamed q ≤ 64 → d.begun + unnamed q ≤ length M → d.done + unfinished q ≡ d.begun
+  pub steady_in : (k : ℕ) (q : State) → n ≤ k → Poised q d.stack (length d.lefts.items) → length d.titles.items + unnamed q ≤ 64 → length d.titles.items + unnamed q ≤ length M → d.done + unfinished q ≡ length d.titles.items
       → Steady k (in_state q d) (length P) (length M)
   steady_in k q le po fm le' to =
       let s = st.sound in
@@ -109,10 +105,7 @@ module _ (text : List ℕ) (n : ℕ) (d : Parser) (P : List Place) (M : List Mod
         lent = le';
         sound = record {
           ops_kept = s.ops_kept;
-          floors_kept = s.floors_kept;
           names_kept = s.names_kept;
-          lefts_kept = s.lefts_kept;
-          titles_kept = s.titles_kept;
           short = omega arith;
           nested = s.nested;
           tidy = s.tidy;
@@ -125,14 +118,64 @@ module _ (text : List ℕ) (n : ℕ) (d : Parser) (P : List Place) (M : List Mod
       }
 
   -- what is known in a known state
-  pub poised_at : (q : State) → d.state ≡ q → Poised q d.stack d.equations
-  poised_at q e = subst (λ (x : State). Poised x d.stack d.equations) e st.sound.poised
+  pub poised_at : (q : State) → d.state ≡ q → Poised q d.stack (length d.lefts.items)
+  poised_at q e = subst (λ (x : State). Poised x d.stack (length d.lefts.items)) e st.sound.poised
 
-  pub modules_at : (q : State) → d.state ≡ q → d.begun + unnamed q ≤ 64
-  modules_at q e = subst (λ (x : State). d.begun + unnamed x ≤ 64) e st.sound.few_modules
+  pub modules_at : (q : State) → d.state ≡ q → length d.titles.items + unnamed q ≤ 64
+  modules_at q e = subst (λ (x : State). length d.titles.items + unnamed x ≤ 64) e st.sound.few_modules
 
-  pub lent_at : (q : State) → d.state ≡ q → d.begun + unnamed q ≤ length M
-  lent_at q e = subst (λ (x : State). d.begun + unnamed x ≤ length M) e st.lent
+  pub lent_at : (q : State) → d.state ≡ q → length d.titles.items + unnamed q ≤ length M
+  lent_at q e = subst (λ (x : State). length d.titles.items + unnamed x ≤ length M) e st.lent
 
-  pub told_at : (q : State) → d.state ≡ q → d.done + unfinished q ≡ d.begun
-  told_at q e = subst (λ (x : State). d.done + unfinished x ≡ d.begun) e st.sound.told
+  pub told_at : (q : State) → d.state ≡ q → d.done + unfinished q ≡ length d.titles.items
+  told_at q e = subst (λ (x : State). d.done + unfinished x ≡ length d.titles.items) e st.sound.told
+
+-- a parser that begins
+pub begins : (d : Parser) → d.state ≡ Outside → length d.stack.ops ≡ 256 → d.stack.pending ≡ 0 → d.stack.floors.items ≡ [] → d.first ≡ 0 → d.rows ≡ 0 → length d.names ≡ 256
+    → d.lefts.items ≡ [] → d.titles.items ≡ [] → d.done ≡ 0 → Blank d
+unfolding view
+begins d q o p f a r names l t e =
+    let no_floor : length d.stack.floors.items ≡ 0 = ap length f in
+    let no_title : length d.titles.items ≡ 0 = ap length t in
+    let no_left : length d.lefts.items ≡ 0 = ap length l in
+    let idle : unnamed d.state ≡ 0 = ap unnamed q in
+    let ready : unfinished d.state ≡ 0 = ap unfinished q in
+    record {
+      steady = λ n m. record {
+        room = omega arith;
+        lent = omega arith;
+        sound = record {
+          ops_kept = o;
+          names_kept = names;
+          short = omega arith;
+          nested = omega arith;
+          tidy = subst (λ (fs : List ℕ). Tidy fs (length fs) d.stack.pending) (sym f) tt;
+          poised = subst (λ (x : State). Poised x d.stack (length d.lefts.items)) (sym q) (p, no_floor);
+          few_rows = omega arith;
+          few_equations = omega arith;
+          few_modules = omega arith;
+          told = omega arith;
+        };
+      };
+      shows = λ text P M.
+          let F : Stage → List Entry → List Row → List Side → List (List ℕ) → List Place → List ModuleRow → Reading = λ (q : Stage) (es : List Entry) (rs : List Row) (ss : List Side) (ts : List (List ℕ)) (ps : List Place) (ms : List ModuleRow). record {
+            state = q;
+            opened = es;
+            rows = rs;
+            sides = ss;
+            titles = ts;
+            places = ps;
+            modules = ms;
+          } in
+          let R = rows_view text d.names (rows_in d.first d.rows P) in
+          let S = map (side_in text) d.lefts.items in
+          let T = map (label_in text) d.titles.items in
+          ap (λ (x : State). F (state_of_stage x) (opened_on d.stack) R S T (take d.first P) (take d.done M)) q
+          ∙ ap (λ (x : List ℕ). F outside (opened_in d.stack.ops x (length x) d.stack.pending) R S T (take d.first P) (take d.done M)) f
+          ∙ ap (λ (x : ℕ). F outside (above d.stack.ops 0 x) R S T (take d.first P) (take d.done M)) p
+          ∙ ap (λ (x : ℕ). F outside [] (rows_view text d.names (rows_in d.first x P)) S T (take d.first P) (take d.done M)) r
+          ∙ ap (λ (x : List Label). F outside [] [] (map (side_in text) x) T (take d.first P) (take d.done M)) l
+          ∙ ap (λ (x : List Label). F outside [] [] [] (map (label_in text) x) (take d.first P) (take d.done M)) t
+          ∙ ap (λ (x : ℕ). F outside [] [] [] [] (take x P) (take d.done M)) a
+          ∙ ap (λ (x : ℕ). F outside [] [] [] [] [] (take x M)) e;
+    }

@@ -1,5 +1,5 @@
 -- How steps make a reading: what is left gives it.
-use Rattle.std.proofs.Common.{◌≡◌, ℕ, ◌+◌, ◌≤◌, Bool, true, false, List, [], length, take, Ok, Err, Result, sym, refl, ap, ◌∙◌, subst, arith}
+use Rattle.std.proofs.Common.{◌≡◌, ℕ, ◌+◌, ◌≤◌, Bool, true, false, List, [], length, take, IsErrAnd, Ok, Err, Result, sym, refl, ap, ◌∙◌, subst, arith}
 use Rattle.rows.specs.declared.row.Place.{Place}
 use Rattle.rows.specs.declared.row.ModuleRow.{ModuleRow}
 use Rattle.book_words.specs.Words.{Kind, Word, words}
@@ -8,7 +8,10 @@ use Rattle.book_words.specs.declared.word.Found.{Found}
 use Rattle.book_grammar.specs.Reading.{Reading, Read, run, reading, tried}
 use Rattle.book_grammar.specs.Reading.{Step}
 use Rattle.book_grammar.specs.Reading.Read.{refused, taken}
+use Rattle.std.proofs.lemmas.Result.{err_from_is_err_and}
 use Rattle.book_text.specs.declared.fault.BookFault.{BookFault}
+use Rattle.book_text.specs.declared.fault.BookFault.TheVariants.{NotAllowed}
+use Rattle.book_text.specs.declared.steps.reading.Used.{Used}
 use Rattle.book_text.specs.declared.parser.Parser.{Parser}
 use Rattle.book_text.specs.declared.parser.State.TheVariants.{Outside}
 use Rattle.book_text.specs.Faults.{number_of, Where, where_of}
@@ -16,7 +19,7 @@ use Rattle.book_text.specs.Faults.Where.{offset_at}
 use Rattle.book_text.specs.Parsers.{view}
 use Rattle.book_text.specs.Changes.{is_at}
 use Rattle.book_text.specs.Steps.{Steady, going_on, Leads, Blank}
-use Rattle.book_text.specs.Outcomes.{judged_read}
+use Rattle.book_text.specs.Outcomes.{judged_read, ReadsWords}
 use Rattle.book_text.specs.Outcomes.Outcome.{turned_away}
 use Rattle.book_text.proofs.Viewing.{known, told_at}
 
@@ -34,10 +37,7 @@ steady_later n n' d p m h st =
       lent = st.lent;
       sound = record {
         ops_kept = s.ops_kept;
-        floors_kept = s.floors_kept;
         names_kept = s.names_kept;
-        lefts_kept = s.lefts_kept;
-        titles_kept = s.titles_kept;
         short = omega arith;
         nested = s.nested;
         tidy = s.tidy;
@@ -120,9 +120,16 @@ module _ (text : List ℕ) (P₀ : List Place) (M₀ : List ModuleRow) where
       let q = known d.state Outside h in
       let r = g.steady.room in
       let l = g.steady.lent in
-      let t : d.done + 0 ≡ d.begun = told_at text from d P₀ M₀ g.steady Outside q in
+      let t : d.done + 0 ≡ length d.titles.items = told_at text from d P₀ M₀ g.steady Outside q in
       (at_end d P M from true e g h, omega arith, omega arith)
 
   pub ends_unfinished : (d : Parser) (P : List Place) (M : List ModuleRow) (from : ℕ) → words_at text from ≡ [] → Going d P M from → is_at d.state Outside ≡ false
       → judged_read (reading (length P₀) (length M₀) text) ≡ turned_away 2 (offset_at (length text))
   ends_unfinished d P M from e g h = ap judged_read (at_end d P M from false e g h)
+
+  pub leaves_unfinished : (P : List Place) (M : List ModuleRow) (r : Result Used BookFault) (f : BookFault) → IsErrAnd r (λ (y : BookFault). y ≡ f) → f ≡ NotAllowed (length text)
+      → judged_read (reading (length P₀) (length M₀) text) ≡ turned_away 2 (offset_at (length text)) → ReadsWords text P₀ M₀ P M r
+  leaves_unfinished P M r f b e h =
+      let q = err_from_is_err_and r b in
+      subst (λ (y : Result Used BookFault). ReadsWords text P₀ M₀ P M y) (sym q.1)
+      (subst (λ (y : BookFault). judged_read (reading (length P₀) (length M₀) text) ≡ turned_away (number_of y) (where_of y)) (sym (q.2 ∙ e)) h)

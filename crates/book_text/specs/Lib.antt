@@ -1,4 +1,4 @@
-pub mod Finding
+pub mod Names
 pub mod Parsers
 pub mod Stacks
 pub mod Faults

@@ -64,12 +64,3 @@ pub record TurnedAway (text : List ℕ) (places : List Place) (modules : List Mo
 abbrev pub Reads : List ℕ → List Place → List ModuleRow → List Place → List ModuleRow → Result Used BookFault → Type 0
 Reads text places modules places' modules' (Ok u) = Accepted text places modules places' modules' u
 Reads text places modules places' modules' (Err f) = TurnedAway text places modules places' modules' f
-
--- rows from a number on are zeroed, and those before it stay
-pub record ZeroedPlaces (from : ℕ) (places places' : List Place) : Type 0 where
-  pub kept : take from places' ≡ take from places
-  pub zeroed : drop from places' ≡ replicate (length places - from) Nil
-
-pub record ZeroedModules (from : ℕ) (modules modules' : List ModuleRow) : Type 0 where
-  pub kept : take from modules' ≡ take from modules
-  pub zeroed : drop from modules' ≡ replicate (length modules - from) zero_row

@@ -1,9 +1,10 @@
 -- What a parser and the lent rows stand for: a reading in progress. Assumes nothing.
-use Rattle.std.specs.Prelude.{ℕ, zero, suc, ◌+◌, ◌-◌, List, [], ◌∷◌, ◌++◌, map, take, drop, slice_index, slice_index_or}
+use Rattle.std.specs.Prelude.{ℕ, zero, suc, ◌+◌, ◌-◌, List, [], ◌∷◌, ◌++◌, map, length, take, drop, slice_index, slice_index_or}
 use Rattle.rows.specs.declared.row.Place.{Place}
 use Rattle.rows.specs.declared.row.Place.TheVariants.{Nil, Act, Wait, Sum, Name}
 use Rattle.rows.specs.declared.row.ModuleRow.{ModuleRow}
 use Rattle.book_text.specs.declared.parser.Parser.{Parser}
+use Rattle.book_text.specs.declared.parser.Stack.{Stack}
 use Rattle.book_text.specs.declared.parser.Span.{Span}
 use Rattle.book_text.specs.declared.parser.Label.{Label}
 use Rattle.book_text.specs.declared.parser.Open.{Open}
@@ -50,6 +51,10 @@ abbrev pub opened_in : List Open → List ℕ → ℕ → ℕ → List Entry
 opened_in ops floors zero n = above ops 0 n
 opened_in ops floors (suc k) n = above ops (slice_index floors k) (n - slice_index floors k) ++ paren ∷ opened_in ops floors k (slice_index floors k)
 
+-- what is open on a stack
+abbrev pub opened_on : Stack → List Entry
+opened_on s = opened_in s.ops s.floors.items (length s.floors.items) s.pending
+
 -- the bytes of a name
 abbrev pub part_in : List ℕ → Span → List ℕ
 part_in text s = take s.size (drop s.at text)
@@ -82,10 +87,10 @@ rows_in first rows places = take rows (drop first places)
 unfoldable pub view : List ℕ → Parser → List Place → List ModuleRow → Reading
 view text d places modules = record {
   state = state_of_stage d.state;
-  opened = opened_in d.stack.ops d.stack.floors d.stack.parens d.stack.pending;
+  opened = opened_on d.stack;
   rows = rows_view text d.names (rows_in d.first d.rows places);
-  sides = map (side_in text) (take d.equations d.lefts);
-  titles = map (label_in text) (take d.begun d.titles);
+  sides = map (side_in text) d.lefts.items;
+  titles = map (label_in text) d.titles.items;
   places = take d.first places;
   modules = take d.done modules;
 }

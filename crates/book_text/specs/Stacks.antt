@@ -5,11 +5,20 @@ use Rattle.rows.specs.declared.row.Place.TheVariants.{Act, Wait, Sum}
 use Rattle.book_text.specs.declared.parser.Stack.{Stack}
 use Rattle.book_text.specs.declared.parser.Open.{Open}
 use Rattle.book_text.specs.declared.parser.Open.TheVariants.{Waiting, Acting, Adding}
-use Rattle.book_text.specs.Parsers.{op_at}
+use Rattle.arrayvec.specs.ArrayVec.{array_vec_len}
+use Rattle.book_text.specs.Parsers.{op_at, floor_of}
+
+-- how many ops are open around the innermost parenthesis
+abbrev pub floor : Stack → ℕ
+floor s = floor_of s.floors.items (array_vec_len s.floors)
+
+-- how many ops wait for the term at hand
+abbrev pub waiting_on : Stack → ℕ
+waiting_on s = s.pending - floor s
 
 -- one more op
 abbrev pub pushed : Stack → Open → Stack
-pushed s o = record { ops = slice_set s.ops s.pending o; pending = s.pending + 1; floors = s.floors; parens = s.parens }
+pushed s o = record { ops = slice_set s.ops s.pending o; pending = s.pending + 1; floors = s.floors }
 
 -- what an op becomes with the place that follows it
 abbrev pub place_for : Open → ℕ → Place

@@ -1,22 +1,23 @@
 -- What one word does to a parser and the lent rows. Assumes nothing.
-use Rattle.std.specs.Prelude.{◌≡◌, ℕ, zero, suc, ◌+◌, ◌<◌, ◌≤◌, true, false, List, length, Ok, Err, Result, slice_index}
+use Rattle.std.specs.Prelude.{◌≡◌, ℕ, zero, suc, ◌+◌, ◌<◌, ◌≤◌, List, length, take, drop, Ok, Err, Result, slice_index}
+use Rattle.arrayvec.specs.ArrayVec.{array_vec_len}
 use Rattle.rows.specs.declared.row.Place.{Place}
 use Rattle.rows.specs.declared.row.ModuleRow.{ModuleRow}
 use Rattle.book_words.specs.Words.{Kind, Word}
+use Rattle.book_words.specs.Words.Kind.{name}
 use Rattle.book_grammar.specs.Numbers.{most_modules, most_equations, most_places, most_parentheses}
 use Rattle.book_grammar.specs.Reading.{Reading, Step, Read, tried, run, blank_reading}
 use Rattle.book_grammar.specs.Reading.Step.{stops, goes}
 use Rattle.book_grammar.specs.Reading.Read.{refused}
 use Rattle.book_text.specs.declared.fault.BookFault.{BookFault}
-use Rattle.book_text.specs.declared.fault.BookFault.TheVariants.{NotAllowed}
 use Rattle.book_text.specs.declared.parser.Parser.{Parser}
 use Rattle.book_text.specs.declared.parser.Stack.{Stack}
 use Rattle.book_text.specs.declared.parser.State.{State}
 use Rattle.book_text.specs.declared.parser.State.TheVariants.{Outside, Title, Brace, Left, Equal, Term, Point, After}
 use Rattle.book_text.specs.Faults.{number_of, where_of}
 use Rattle.book_text.specs.Faults.Where.{offset_at}
-use Rattle.book_text.specs.Parsers.{floor_of, view}
-use Rattle.book_text.specs.Changes.{is_at, in_state}
+use Rattle.book_text.specs.Parsers.{view}
+use Rattle.book_text.specs.Stacks.{floor}
 
 -- the floors of k parentheses rise, and none is above the number n of ops
 abbrev pub Tidy : List ℕ → ℕ → ℕ → Type 0
@@ -25,14 +26,14 @@ Tidy floors (suc k) n = (slice_index floors k ≤ n) × Tidy floors k (slice_ind
 
 -- what is open in each state, and that a right side belongs to an equation
 abbrev pub Poised : State → Stack → ℕ → Type 0
-Poised Outside s equations = (s.pending ≡ 0) × (s.parens ≡ 0)
-Poised Title s equations = (s.pending ≡ 0) × (s.parens ≡ 0)
-Poised Brace s equations = (s.pending ≡ 0) × (s.parens ≡ 0)
-Poised Left s equations = (s.pending ≡ 0) × (s.parens ≡ 0)
+Poised Outside s equations = (s.pending ≡ 0) × (array_vec_len s.floors ≡ 0)
+Poised Title s equations = (s.pending ≡ 0) × (array_vec_len s.floors ≡ 0)
+Poised Brace s equations = (s.pending ≡ 0) × (array_vec_len s.floors ≡ 0)
+Poised Left s equations = (s.pending ≡ 0) × (array_vec_len s.floors ≡ 0)
 Poised Equal s equations = 0 < equations
 Poised Term s equations = 0 < equations
 Poised Point s equations = 0 < equations
-Poised After s equations = (0 < equations) × (s.pending ≡ floor_of s.floors s.parens)
+Poised After s equations = (0 < equations) × (s.pending ≡ floor s)
 
 -- the modules that are begun and have no name yet; those that have a name and no row yet
 abbrev pub unnamed : State → ℕ
@@ -58,24 +59,21 @@ unfinished After = 1
 -- what holds of a parser between words; at most n ops are open
 pub record Sound (n : ℕ) (d : Parser) : Type 0 where
   pub ops_kept : length d.stack.ops ≡ most_places
-  pub floors_kept : length d.stack.floors ≡ most_parentheses
   pub names_kept : length d.names ≡ most_places
-  pub lefts_kept : length d.lefts ≡ most_equations
-  pub titles_kept : length d.titles ≡ most_modules
   pub short : d.stack.pending ≤ n
-  pub nested : d.stack.parens ≤ most_parentheses
-  pub tidy : Tidy d.stack.floors d.stack.parens d.stack.pending
-  pub poised : Poised d.state d.stack d.equations
+  pub nested : array_vec_len d.stack.floors ≤ most_parentheses
+  pub tidy : Tidy d.stack.floors.items (length d.stack.floors.items) d.stack.pending
+  pub poised : Poised d.state d.stack (array_vec_len d.lefts)
   pub few_rows : d.rows ≤ most_places
-  pub few_equations : d.equations ≤ most_equations
-  pub few_modules : d.begun + unnamed d.state ≤ most_modules
-  pub told : d.done + unfinished d.state ≡ d.begun
+  pub few_equations : array_vec_len d.lefts ≤ most_equations
+  pub few_modules : array_vec_len d.titles + unnamed d.state ≤ most_modules
+  pub told : d.done + unfinished d.state ≡ array_vec_len d.titles
 
 -- the same with p place rows and m module rows lent
 pub record Steady (n : ℕ) (d : Parser) (p m : ℕ) : Type 0 where
   pub sound : Sound n d
   pub room : d.first + d.rows ≤ p
-  pub lent : d.begun + unnamed d.state ≤ m
+  pub lent : array_vec_len d.titles + unnamed d.state ≤ m
 
 -- what the word leads to, and then the words behind it
 abbrev pub going_on : ℕ → ℕ → ℕ → ℕ → List Word → Step → Read
@@ -109,10 +107,9 @@ DoesRows text d places k at d' places' r = (modules : List ModuleRow) → Does t
 abbrev pub DoesRowsAny : Parser → List Place → Kind → ℕ → Parser → List Place → Result (Unit {0}) BookFault → Type 0
 DoesRowsAny d places k at d' places' r = (text : List ℕ) → DoesRows text d places k at d' places' r
 
--- a state goes on to another where it is the one that is wanted
-abbrev pub Passes : Parser → State → State → ℕ → Parser → Result (Unit {0}) BookFault → Type 0
-Passes d wanted next at d' (Ok done) = (is_at d.state wanted ≡ true) × (d' ≡ in_state next d)
-Passes d wanted next at d' (Err f) = (is_at d.state wanted ≡ false) × (f ≡ NotAllowed at)
+-- for a name x that stands at the offset
+abbrev pub DoesName : List ℕ → Parser → List Place → List ℕ → ℕ → Parser → List Place → Result (Unit {0}) BookFault → Type 0
+DoesName text d places x at d' places' r = x ≡ take (length x) (drop at text) → DoesRows text d places (name x) at d' places' r
 
 -- a parser that begins
 pub record Blank (d : Parser) : Type 0 where

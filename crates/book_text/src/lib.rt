@@ -4,6 +4,7 @@
 mod fault;
 mod names;
 mod parser;
+mod stack;
 mod steps;
 
 pub use fault::{BookFault, WordFault};

@@ -1,10 +1,14 @@
 // Names by where they stand in the text.
-ghost use Rattle.std.specs.Prelude.{◌≡◌, ℕ, ◌+◌, ◌-◌, ◌<◌, ◌≤◌, map, length, take};
-ghost use Rattle.book_text.specs.Parsers.{part_in, label_in};
-ghost use Rattle.book_text.specs.Finding.{first_same};
+ghost use Rattle.std.specs.Prelude.{◌≡◌, ◌<◌, ◌≤◌, length, MatchResult};
+ghost use Rattle.std.specs.List.{find};
+ghost use Rattle.arrayvec.specs.ArrayVec.{array_vec_len};
+ghost use Rattle.book_text.specs.declared.fault.WordFault.TheVariants.{Long};
+ghost use Rattle.book_text.specs.Parsers.{part_in};
+ghost use Rattle.book_text.specs.Names.{is_named, Adds};
 
-use crate::parser::{Label, Span};
-use book_words::same_bytes;
+use crate::fault::{BookFault, WordFault};
+use crate::parser::{Label, MOST_LETTERS, Span};
+use arrayvec::ArrayVec;
 
 // The bytes of a name.
 pub(crate) fn part(text: &[u8], span: Span) -> &[u8]
@@ -17,17 +21,49 @@ pub(crate) fn part(text: &[u8], span: Span) -> &[u8]
     &text[at..end]
 }
 
-// The index of the first of the first n labels that has this name.
-pub(crate) fn find(text: &[u8], labels: &[Label], n: usize, name: &[u8]) -> Option<usize>
-    ensures { result ≡ first_same name.now (map (label_in text.now) (take n labels.now)) 0 }
+fn is_named(text: &[u8], label: Label, name: &[u8]) -> bool
+    ensures { result ≡ is_named text.now name.now label }
 {
-    for (i, label) in labels.iter().enumerate() {
-        if i >= n {
-            return None;
-        }
-        if same_bytes(name, part(text, label.name)) {
-            return Some(i);
-        }
+    name == part(text, label.name)
+}
+
+// The first of the labels that has this name.
+pub(crate) fn find(text: &[u8], labels: &[Label], name: &[u8]) -> Option<Label>
+    ensures { result ≡ find (is_named text.now name.now) labels.now }
+{
+    labels
+        .iter()
+        .copied()
+        .find(|label| is_named(text, *label, name))
+}
+
+pub(crate) fn no_longer(name: &[u8], at: usize) -> Result<(), WordFault>
+    ensures { MatchResult result (λ _. length name.now ≤ 16) (λ f. (16 < length name.now) × (f ≡ Long at)) }
+{
+    if name.len() > MOST_LETTERS {
+        Err(WordFault::Long(at))
+    } else {
+        Ok(())
     }
-    None
+}
+
+// One more label with this name, which stands at an offset: it is no longer than it may be, new, and there is room.
+pub(crate) fn add<const N: usize>(
+    labels: &mut ArrayVec<Label, N>,
+    text: &[u8],
+    name: &[u8],
+    at: usize,
+) -> Result<(), BookFault>
+    ensures { Adds N text.now name.now at labels.old labels.new result }
+{
+    no_longer(name, at)?;
+    if find(text, labels.as_slice(), name).is_some() {
+        return Err(BookFault::GivenBefore(at));
+    }
+    let size = name.len();
+    let label = Label {
+        name: Span { at, size },
+        place: 0,
+    };
+    labels.try_push(label).map_err(|_| BookFault::TooMany(at))
 }

@@ -1,5 +1,7 @@
 // What a reading keeps beside the lent rows, all of it bounded.
 
+use arrayvec::ArrayVec;
+
 pub const MOST_MODULES: usize = 64;
 
 pub const MOST_EQUATIONS: usize = 64;
@@ -12,8 +14,9 @@ pub const MOST_LETTERS: usize = 16;
 
 // The states of the automaton, each named by what comes next: a module or the end, a module's name, its `{`, a left side or the `}`, the
 // `=`, a term, the `.` of a prefix; the last is behind a term.
-#[derive(Clone, Copy, PartialEq, Eq)]
+#[derive(Clone, Copy, Default, PartialEq, Eq)]
 pub enum State {
+    #[default]
     Outside,
     Title,
     Brace,
@@ -25,22 +28,23 @@ pub enum State {
 }
 
 // What waits for the term that follows it: a wait, an action, a sum that has its left place.
-#[derive(Clone, Copy)]
+#[derive(Clone, Copy, Default)]
 pub enum Open {
+    #[default]
     Waiting,
     Acting(i8),
     Adding(u16),
 }
 
 // A name, by where it stands in the text.
-#[derive(Clone, Copy)]
+#[derive(Clone, Copy, Default)]
 pub struct Span {
     pub at: usize,
     pub size: usize,
 }
 
 // A name that was given, and the place of its right side: 0 where that is not known yet, and for a module's name.
-#[derive(Clone, Copy)]
+#[derive(Clone, Copy, Default)]
 pub struct Label {
     pub name: Span,
     pub place: u16,
@@ -48,26 +52,25 @@ pub struct Label {
 
 // What is open in a right side. `pending` prefixes and sums wait for a term; of those beyond the most places only the number is kept,
 // since a module that has them is refused whatever they are. Each open parenthesis has how many waited around it.
-#[derive(Clone, Copy)]
+#[derive(Default, Drop)]
 pub struct Stack {
+    // no list with its length: `pending` goes on counting where `ops` is full
     pub ops: [Open; MOST_PLACES],
     pub pending: usize,
-    pub floors: [usize; MOST_PARENTHESES],
-    pub parens: usize,
+    pub floors: ArrayVec<usize, MOST_PARENTHESES>,
 }
 
-// A reading: the module at hand has `rows` places from row `first` on, `names` has for each that is a name where that stands in the text,
-// and `lefts` has its left sides, of which there are `equations`. `begun` modules have a name, and `done` have a row.
-#[derive(Drop)]
+// A reading: the module at hand has `rows` places from row `first` on, and `lefts` has its left sides. `titles` has the names of the modules
+// that have one, and `done` modules have a row.
+#[derive(Default, Drop)]
 pub struct Parser {
     pub state: State,
     pub stack: Stack,
     pub first: usize,
-    pub rows: usize,
+    pub rows: u16,
+    // where the name of a row stands that is one; the lent rows have no room for that
     pub names: [Span; MOST_PLACES],
-    pub lefts: [Label; MOST_EQUATIONS],
-    pub equations: usize,
-    pub titles: [Label; MOST_MODULES],
-    pub begun: usize,
+    pub lefts: ArrayVec<Label, MOST_EQUATIONS>,
+    pub titles: ArrayVec<Label, MOST_MODULES>,
     pub done: usize,
 }

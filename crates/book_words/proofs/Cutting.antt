@@ -1,9 +1,12 @@
 -- The first word at or behind an offset.
-use Rattle.std.proofs.Common.{◌≡◌, ℕ, zero, suc, ◌+◌, ◌-◌, ◌<◌, ◌≤◌, Bool, true, false, cond, ◌||◌, eqb, List, [], ◌∷◌, length, get_or, take, drop, pos, sym, refl, ap, ◌∙◌, arith, length-drop}
+use Rattle.std.proofs.Common.{◌≡◌, ℕ, zero, suc, ◌+◌, ◌-◌, ◌<◌, ◌≤◌, Bool, true, false, cond, ◌||◌, eqb, List, [], ◌∷◌, length, get_or, take, drop, option_and_then, sym, refl, ap, ◌∙◌, arith, length-drop}
+use Rattle.std.specs.Char.{is_ascii_digit, is_ascii_alphanumeric}
 use Rattle.std.specs.List.{prefix_len}
-use Rattle.std.proofs.lemmas.List.{drop_more, drop-drop, drop_all}
+use Rattle.action.specs.Action.{opposite}
+use Rattle.std.proofs.lemmas.List.{drop_more, drop-drop, drop_all, get_or-drop}
+use Rattle.std.proofs.lemmas.List.Sums.{prefix_len_stops}
 use Rattle.std.proofs.lemmas.Bool.{ne_eqb}
-use Rattle.book_words.specs.Words.{Kind, Word, words_from, blank, alnum, digit, asks, size_at, kind_at, run_kind, mark_kind, ported, port_of, minus}
+use Rattle.book_words.specs.Words.{Kind, Word, words_from, blank, asks, size_at, kind_at, run_kind, mark_kind, ported, port_of}
 use Rattle.book_words.specs.Shown.{words_at, Spells, NoName}
 use Rattle.book_words.specs.declared.word.Word.{Word as CodeWord}
 use Rattle.book_words.specs.declared.word.Word.TheVariants.{Alien, Other, Bad, Module, Nil, Wait, Dot, Plus, Equals, Ends, Opens, Closes, Enter, Leave, Name, Act}
@@ -78,12 +81,19 @@ at_word text at h e =
     (ap (λ (x : List ℕ). drop (size_at b bs) x) (sym d) ∙ drop-drop (size_at b bs) at text)
     ∙ ap (λ (x : List Word). word_at at b bs ∷ x) (fuel (length text) (suc (length text)) (at + size_at b bs) (drop (at + size_at b bs) text) (omega arith) (omega arith))
 
-pub cut_one : (text : List ℕ) (from at end : ℕ) (K : Kind) → at ≡ from + prefix_len blank (drop from text) → at < length text → blank (get_or text at 0) ≡ false
+-- no blank is where the blanks end
+pub no_blank : (text : List ℕ) (from at : ℕ) → at ≡ from + prefix_len blank (drop from text) → at < length text → blank (get_or text at 0) ≡ false
+no_blank text from at e h =
+    let l = length-drop from text in
+    ap (λ (i : ℕ). blank (get_or text i 0)) e ∙ ap blank (sym (get_or-drop from text (prefix_len blank (drop from text)) 0))
+    ∙ prefix_len_stops blank (drop from text) 0 (omega arith)
+
+cut_one : (text : List ℕ) (from at end : ℕ) (K : Kind) → at ≡ from + prefix_len blank (drop from text) → at < length text
     → end ≡ at + size_at (get_or text at 0) (drop (at + 1) text) → K ≡ kind_at (get_or text at 0) (drop (at + 1) text)
     → words_at text from ≡ record { at = at; size = end - at; kind = K } ∷ words_at text end
-cut_one text from at end K e h n s k =
+cut_one text from at end K e h s k =
     let size : size_at (get_or text at 0) (drop (at + 1) text) ≡ end - at = omega arith in
-    past_blanks text from at e ∙ at_word text at h n
+    past_blanks text from at e ∙ at_word text at h (no_blank text from at e h)
     ∙ ap (λ (i : ℕ). word_at at (get_or text at 0) (drop (at + 1) text) ∷ words_at text i) (sym s)
     ∙ ap {B = List Word} (λ (i : ℕ). record { at = at; size = i; kind = kind_at (get_or text at 0) (drop (at + 1) text) } ∷ words_at text end) size
     ∙ ap {B = List Word} (λ (i : Kind). record { at = at; size = end - at; kind = i } ∷ words_at text end) (sym k)
@@ -93,57 +103,57 @@ part : (text : List ℕ) (at n k : ℕ) → at < length text → n ≡ suc k →
 part text at n k h e =
     ap (λ (i : ℕ). take i (drop at text)) e ∙ ap (λ (x : List ℕ). take (suc k) x) (drop_more text at 0 h)
 
-pub cut_run : (text : List ℕ) (from at end : ℕ) (K : Kind) → at ≡ from + prefix_len blank (drop from text) → at < length text → blank (get_or text at 0) ≡ false
-    → alnum (get_or text at 0) ≡ true → end ≡ at + 1 + prefix_len alnum (drop (at + 1) text) → K ≡ run_kind (take (end - at) (drop at text))
+pub cut_run : (text : List ℕ) (from at end : ℕ) (K : Kind) → at ≡ from + prefix_len blank (drop from text) → at < length text
+    → is_ascii_alphanumeric (get_or text at 0) ≡ true → end ≡ at + 1 + prefix_len is_ascii_alphanumeric (drop (at + 1) text) → K ≡ run_kind (take (end - at) (drop at text))
     → words_at text from ≡ record { at = at; size = end - at; kind = K } ∷ words_at text end
-cut_run text from at end K e h n a s k =
+cut_run text from at end K e h a s k =
     let b = get_or text at 0 in
     let bs = drop (at + 1) text in
-    let j : size_at b bs ≡ suc (prefix_len alnum bs) = ap (λ (x : Bool). suc (cond x (prefix_len alnum bs) (cond (asks b) (prefix_len digit bs) 0))) a in
-    let i : kind_at b bs ≡ run_kind (b ∷ take (prefix_len alnum bs) bs) =
-    ap (λ (x : Bool). cond x (run_kind (b ∷ take (prefix_len alnum bs) bs)) (cond (eqb b 63) (ported (port_of (take (prefix_len digit bs) bs)) pos)
-    (cond (eqb b 33) (ported (port_of (take (prefix_len digit bs) bs)) minus) (mark_kind b)))) a in
-    let q : end - at ≡ suc (prefix_len alnum bs) = omega arith in
-    cut_one text from at end K e h n (omega arith) (k ∙ ap run_kind (part text at (end - at) (prefix_len alnum bs) h q) ∙ sym i)
+    let j : size_at b bs ≡ suc (prefix_len is_ascii_alphanumeric bs) = ap (λ (x : Bool). suc (cond x (prefix_len is_ascii_alphanumeric bs) (cond (asks b) (prefix_len is_ascii_digit bs) 0))) a in
+    let i : kind_at b bs ≡ run_kind (b ∷ take (prefix_len is_ascii_alphanumeric bs) bs) =
+    ap (λ (x : Bool). cond x (run_kind (b ∷ take (prefix_len is_ascii_alphanumeric bs) bs)) (cond (eqb b 63) (ported (port_of (take (prefix_len is_ascii_digit bs) bs)))
+    (cond (eqb b 33) (ported (option_and_then opposite (port_of (take (prefix_len is_ascii_digit bs) bs)))) (mark_kind b)))) a in
+    let q : end - at ≡ suc (prefix_len is_ascii_alphanumeric bs) = omega arith in
+    cut_one text from at end K e h (omega arith) (k ∙ ap run_kind (part text at (end - at) (prefix_len is_ascii_alphanumeric bs) h q) ∙ sym i)
 
 -- a `?`
 pub cut_ask : (text : List ℕ) (from at end : ℕ) (K : Kind) → at ≡ from + prefix_len blank (drop from text) → at < length text
-    → get_or text at 0 ≡ 63 → end ≡ at + 1 + prefix_len digit (drop (at + 1) text) → K ≡ ported (port_of (take (end - (at + 1)) (drop (at + 1) text))) pos
+    → get_or text at 0 ≡ 63 → end ≡ at + 1 + prefix_len is_ascii_digit (drop (at + 1) text) → K ≡ ported (port_of (take (end - (at + 1)) (drop (at + 1) text)))
     → words_at text from ≡ record { at = at; size = end - at; kind = K } ∷ words_at text end
 cut_ask text from at end K e h b s k =
     let bs = drop (at + 1) text in
-    let q : end - (at + 1) ≡ prefix_len digit bs = omega arith in
-    let j : size_at (get_or text at 0) bs ≡ suc (prefix_len digit bs) = ap (λ (x : ℕ). size_at x bs) b in
-    let i : kind_at (get_or text at 0) bs ≡ ported (port_of (take (prefix_len digit bs) bs)) pos = ap (λ (x : ℕ). kind_at x bs) b in
-    cut_one text from at end K e h (ap blank b) (omega arith) (k ∙ ap (λ (x : ℕ). ported (port_of (take x bs)) pos) q ∙ sym i)
+    let q : end - (at + 1) ≡ prefix_len is_ascii_digit bs = omega arith in
+    let j : size_at (get_or text at 0) bs ≡ suc (prefix_len is_ascii_digit bs) = ap (λ (x : ℕ). size_at x bs) b in
+    let i : kind_at (get_or text at 0) bs ≡ ported (port_of (take (prefix_len is_ascii_digit bs) bs)) = ap (λ (x : ℕ). kind_at x bs) b in
+    cut_one text from at end K e h (omega arith) (k ∙ ap (λ (x : ℕ). ported (port_of (take x bs))) q ∙ sym i)
 
 -- a `!`
 pub cut_tell : (text : List ℕ) (from at end : ℕ) (K : Kind) → at ≡ from + prefix_len blank (drop from text) → at < length text
-    → get_or text at 0 ≡ 33 → end ≡ at + 1 + prefix_len digit (drop (at + 1) text) → K ≡ ported (port_of (take (end - (at + 1)) (drop (at + 1) text))) minus
+    → get_or text at 0 ≡ 33 → end ≡ at + 1 + prefix_len is_ascii_digit (drop (at + 1) text) → K ≡ ported (option_and_then opposite (port_of (take (end - (at + 1)) (drop (at + 1) text))))
     → words_at text from ≡ record { at = at; size = end - at; kind = K } ∷ words_at text end
 cut_tell text from at end K e h b s k =
     let bs = drop (at + 1) text in
-    let q : end - (at + 1) ≡ prefix_len digit bs = omega arith in
-    let j : size_at (get_or text at 0) bs ≡ suc (prefix_len digit bs) = ap (λ (x : ℕ). size_at x bs) b in
-    let i : kind_at (get_or text at 0) bs ≡ ported (port_of (take (prefix_len digit bs) bs)) minus = ap (λ (x : ℕ). kind_at x bs) b in
-    cut_one text from at end K e h (ap blank b) (omega arith) (k ∙ ap (λ (x : ℕ). ported (port_of (take x bs)) minus) q ∙ sym i)
+    let q : end - (at + 1) ≡ prefix_len is_ascii_digit bs = omega arith in
+    let j : size_at (get_or text at 0) bs ≡ suc (prefix_len is_ascii_digit bs) = ap (λ (x : ℕ). size_at x bs) b in
+    let i : kind_at (get_or text at 0) bs ≡ ported (option_and_then opposite (port_of (take (prefix_len is_ascii_digit bs) bs))) = ap (λ (x : ℕ). kind_at x bs) b in
+    cut_one text from at end K e h (omega arith) (k ∙ ap (λ (x : ℕ). ported (option_and_then opposite (port_of (take x bs)))) q ∙ sym i)
 
-pub cut_mark : (text : List ℕ) (from at : ℕ) (K : Kind) → at ≡ from + prefix_len blank (drop from text) → at < length text → blank (get_or text at 0) ≡ false
-    → alnum (get_or text at 0) ≡ false → (get_or text at 0 ≡ 63 → ⊥) → (get_or text at 0 ≡ 33 → ⊥) → K ≡ mark_kind (get_or text at 0)
+pub cut_mark : (text : List ℕ) (from at : ℕ) (K : Kind) → at ≡ from + prefix_len blank (drop from text) → at < length text
+    → is_ascii_alphanumeric (get_or text at 0) ≡ false → (get_or text at 0 ≡ 63 → ⊥) → (get_or text at 0 ≡ 33 → ⊥) → K ≡ mark_kind (get_or text at 0)
     → words_at text from ≡ record { at = at; size = at + 1 - at; kind = K } ∷ words_at text (at + 1)
-cut_mark text from at K e h n a q t k =
+cut_mark text from at K e h a q t k =
     let b = get_or text at 0 in
     let bs = drop (at + 1) text in
-    let D = ported (port_of (take (prefix_len digit bs) bs)) in
+    let D = port_of (take (prefix_len is_ascii_digit bs) bs) in
     let b1 = ne_eqb b 63 q in
     let b2 = ne_eqb b 33 t in
     let j : size_at b bs ≡ 1 =
-    ap (λ (x : Bool). suc (cond x (prefix_len alnum bs) (cond (asks b) (prefix_len digit bs) 0))) a
-    ∙ ap (λ (x : Bool). suc (cond (x || eqb b 33) (prefix_len digit bs) 0)) b1 ∙ ap (λ (x : Bool). suc (cond x (prefix_len digit bs) 0)) b2 in
+    ap (λ (x : Bool). suc (cond x (prefix_len is_ascii_alphanumeric bs) (cond (asks b) (prefix_len is_ascii_digit bs) 0))) a
+    ∙ ap (λ (x : Bool). suc (cond (x || eqb b 33) (prefix_len is_ascii_digit bs) 0)) b1 ∙ ap (λ (x : Bool). suc (cond x (prefix_len is_ascii_digit bs) 0)) b2 in
     let i : kind_at b bs ≡ mark_kind b =
-    ap (λ (x : Bool). cond x (run_kind (b ∷ take (prefix_len alnum bs) bs)) (cond (eqb b 63) (D pos) (cond (eqb b 33) (D minus) (mark_kind b)))) a
-    ∙ ap (λ (x : Bool). cond x (D pos) (cond (eqb b 33) (D minus) (mark_kind b))) b1 ∙ ap (λ (x : Bool). cond x (D minus) (mark_kind b)) b2 in
-    cut_one text from at (at + 1) K e h n (omega arith) (k ∙ sym i)
+    ap (λ (x : Bool). cond x (run_kind (b ∷ take (prefix_len is_ascii_alphanumeric bs) bs)) (cond (eqb b 63) (ported D) (cond (eqb b 33) (ported (option_and_then opposite D)) (mark_kind b)))) a
+    ∙ ap (λ (x : Bool). cond x (ported D) (cond (eqb b 33) (ported (option_and_then opposite D)) (mark_kind b))) b1 ∙ ap (λ (x : Bool). cond x (ported (option_and_then opposite D)) (mark_kind b)) b2 in
+    cut_one text from at (at + 1) K e h (omega arith) (k ∙ sym i)
 
 -- a word that is no name
 pub no_name : (w : CodeWord) (bytes : List ℕ) → NoName w → Spells bytes w

@@ -1,8 +1,8 @@
 -- What the words of the word reader stand for. Assumes nothing.
 use Rattle.std.specs.Prelude.{◌≡◌, ℕ, suc, ◌-◌, ◌<◌, ◌≤◌, Bool, List, [], ◌∷◌, length, take, drop, Some, None, Option}
-use Rattle.book_words.specs.Words.{Kind, blank, digit, alnum, words_from, Word as SpecWord}
-use Rattle.book_words.specs.declared.reader.Class.{Class}
-use Rattle.book_words.specs.declared.reader.Class.TheVariants.{Blank, Digit, Alnum}
+use Rattle.std.specs.Fn.{Mut, CalledAt}
+use Rattle.std.specs.Borrow.{Bor}
+use Rattle.book_words.specs.Words.{Kind, words_from, Word as SpecWord}
 use Rattle.book_words.specs.declared.word.Found.{Found}
 use Rattle.book_words.specs.Words.Kind.{alien, other, bad, begins, nil, wait, dot, plus, equals, ends, opens, closes, enter, leave, name, act}
 use Rattle.book_words.specs.declared.word.Word.{Word}
@@ -65,11 +65,9 @@ NoName Enter = Unit {0}
 NoName Leave = Unit {0}
 NoName (Act a) = Unit {0}
 
--- the bytes of a class
-abbrev pub test : Class → ℕ → Bool
-test Blank b = blank b
-test Digit b = digit b
-test Alnum b = alnum b
+-- Each call of a closure at a byte tells what the test does, and leaves the closure as it was.
+abbrev pub Tells : {F : Type 0} → Mut F (Bor ℕ × Unit {0}) Bool → F → (ℕ → Bool) → Type 0
+Tells g f test = (b : ℕ) (r : Bool) (f' : _) → CalledAt g f b r f' → (f' ≡ f) × (r ≡ test b)
 
 -- a word that was found, with its offset and length
 abbrev pub word_of : Found → SpecWord

@@ -1,24 +1,14 @@
 -- The words of a text: each with its offset, its length and its kind. Assumes nothing.
-use Rattle.std.specs.Prelude.{ℕ, zero, suc, ◌+◌, ◌-◌, ◌*◌, Bool, true, false, cond, ◌&&◌, ◌||◌, List, [], ◌∷◌, length, take, drop, ℤ, pos, negsuc, codes, ◌==◌, nat_le, nat_lt}
+use Rattle.std.specs.Prelude.{ℕ, zero, suc, ◌+◌, ◌-◌, ◌*◌, Bool, true, false, cond, ◌||◌, List, [], ◌∷◌, length, take, drop, ℤ, pos, Some, None, codes, Option, option_and_then, ◌==◌}
+use Rattle.std.specs.Char.{is_ascii_digit, is_ascii_uppercase, is_ascii_alphanumeric}
+use Rattle.std.specs.Int.{is_in_range}
 use Rattle.std.specs.List.{prefix_len}
 use Rattle.std.specs.Str.{bytes_eq}
-use Rattle.action.specs.Action.{last_port, internal}
+use Rattle.action.specs.Action.{last_port, internal, opposite}
 
 -- the two texts are the same
 abbrev pub same : List ℕ → List ℕ → Bool
 same xs ys = bytes_eq xs ys
-
--- `0` to `9`
-abbrev pub digit : ℕ → Bool
-digit b = nat_le 48 b && nat_le b 57
-
--- `A` to `Z`
-abbrev pub capital : ℕ → Bool
-capital b = nat_le 65 b && nat_le b 90
-
--- a letter or a digit
-abbrev pub alnum : ℕ → Bool
-alnum b = digit b || (capital b || (nat_le 97 b && nat_le b 122))
 
 -- a space or a newline
 abbrev pub blank : ℕ → Bool
@@ -32,31 +22,27 @@ pub data Kind : Type 0 where
   name : List ℕ → Kind
   act : ℤ → Kind
 
--- a number where it is at most the last port, else 0
-abbrev pub port_up_to : ℕ → ℕ
-port_up_to n = cond (nat_lt last_port n) 0 n
+-- a number as the action that receives on that port, where it is a port
+abbrev pub port_up_to : ℕ → Option ℤ
+port_up_to n = cond (is_in_range 1 last_port n) (Some (pos n)) None
 
--- the port that digits name, or 0 where they name none: a port has no leading zero and at most two digits
-abbrev pub port_of : List ℕ → ℕ
-port_of [] = 0
+-- the action that receives on the port that digits name, where they name one: a port has no leading zero and at most two digits
+abbrev pub port_of : List ℕ → Option ℤ
+port_of [] = None
 port_of (d ∷ []) = port_up_to (d - 48)
-port_of (d ∷ e ∷ []) = cond (d == 48) 0 (port_up_to ((d - 48) * 10 + (e - 48)))
-port_of (d ∷ e ∷ g ∷ more) = 0
+port_of (d ∷ e ∷ []) = cond (d == 48) None (port_up_to ((d - 48) * 10 + (e - 48)))
+port_of (d ∷ e ∷ g ∷ more) = None
 
--- a `?` or `!` with the port n, whose action is f n
-abbrev pub ported : ℕ → (ℕ → ℤ) → Kind
-ported n f = cond (n == 0) bad (act (f n))
-
--- the action that sends on a port
-abbrev pub minus : ℕ → ℤ
-minus zero = pos 0
-minus (suc n) = negsuc n
+-- a `?` or `!` that makes this action, where it has a port
+abbrev pub ported : Option ℤ → Kind
+ported None = bad
+ported (Some a) = act a
 
 -- a run of letters and digits
 abbrev pub run_kind : List ℕ → Kind
 run_kind [] = other
 run_kind (b ∷ bs) =
-    cond (capital b) (name (b ∷ bs))
+    cond (is_ascii_uppercase b) (name (b ∷ bs))
     (cond (same (b ∷ bs) (codes "module")) begins
     (cond (same (b ∷ bs) (codes "0")) nil
     (cond (same (b ∷ bs) (codes "w")) wait
@@ -74,14 +60,14 @@ asks b = b == 63 || b == 33
 
 -- the length of the word that begins with b, and bs behind it: a longest run of letters and digits, a `?` or `!` with its digits, or one byte
 abbrev pub size_at : ℕ → List ℕ → ℕ
-size_at b bs = suc (cond (alnum b) (prefix_len alnum bs) (cond (asks b) (prefix_len digit bs) 0))
+size_at b bs = suc (cond (is_ascii_alphanumeric b) (prefix_len is_ascii_alphanumeric bs) (cond (asks b) (prefix_len is_ascii_digit bs) 0))
 
 -- and what it is
 abbrev pub kind_at : ℕ → List ℕ → Kind
 kind_at b bs =
-    cond (alnum b) (run_kind (b ∷ take (prefix_len alnum bs) bs))
-    (cond (b == 63) (ported (port_of (take (prefix_len digit bs) bs)) pos)
-    (cond (b == 33) (ported (port_of (take (prefix_len digit bs) bs)) minus) (mark_kind b)))
+    cond (is_ascii_alphanumeric b) (run_kind (b ∷ take (prefix_len is_ascii_alphanumeric bs) bs))
+    (cond (b == 63) (ported (port_of (take (prefix_len is_ascii_digit bs) bs)))
+    (cond (b == 33) (ported (option_and_then opposite (port_of (take (prefix_len is_ascii_digit bs) bs)))) (mark_kind b)))
 
 -- a word with its offset and its length
 pub record Word : Type 0 where

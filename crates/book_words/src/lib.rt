@@ -2,7 +2,9 @@
 #![tactic(auto)]
 
 mod reader;
+mod walk;
 mod word;
 
 pub use reader::{next_word, same_bytes};
+pub use walk::Words;
 pub use word::{Found, Word};

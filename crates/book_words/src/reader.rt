@@ -1,10 +1,12 @@
 // The word reader: it cuts a text into words, and refuses none of them.
-ghost use Rattle.std.specs.Prelude.{◌≡◌, ℕ, ◌+◌, ◌<◌, ◌≤◌, Bool, true, false, length, drop, pos, if◌then◌else◌, slice_index};
+ghost use Rattle.std.specs.Prelude.{◌≡◌, ℕ, ◌+◌, ◌≤◌, Bool, length, drop, IfSome, option_and_then};
 ghost use Rattle.std.specs.List.{prefix_len};
-ghost use Rattle.book_words.specs.Words.{digit, capital, alnum, blank, same, run_kind, mark_kind, port_up_to, port_of, ported, minus};
-ghost use Rattle.book_words.specs.Shown.{kind_of, test, Spells, NoName, Cuts};
+ghost use Rattle.action.specs.Action.{opposite as opposite_of};
+ghost use Rattle.book_words.specs.Words.{blank, same, run_kind, mark_kind, port_up_to, port_of, ported};
+ghost use Rattle.book_words.specs.Shown.{kind_of, Spells, NoName, Tells, Cuts};
 
 use crate::word::{Found, Word};
+use action::opposite;
 
 // The ports are 1 to this.
 const LAST_PORT: u16 = 31;
@@ -12,37 +14,7 @@ const LAST_PORT: u16 = 31;
 fn is_blank(b: u8) -> bool
     ensures { result ≡ blank b }
 {
-    match b as char {
-        ' ' | '\n' => true,
-        _ => false,
-    }
-}
-
-fn is_digit(b: u8) -> bool
-    ensures { result ≡ digit b }
-{
-    match b as char {
-        '0'..='9' => true,
-        _ => false,
-    }
-}
-
-fn is_capital(b: u8) -> bool
-    ensures { result ≡ capital b }
-{
-    match b as char {
-        'A'..='Z' => true,
-        _ => false,
-    }
-}
-
-fn is_alnum(b: u8) -> bool
-    ensures { result ≡ alnum b }
-{
-    match b as char {
-        '0'..='9' | 'A'..='Z' | 'a'..='z' => true,
-        _ => false,
-    }
+    matches!(b, b' ' | b'\n')
 }
 
 // A byte that is a word of its own.
@@ -50,51 +22,27 @@ fn mark<'a>(b: u8) -> Word<'a>
     ensures kind { kind_of result ≡ mark_kind b }
     ensures plain { NoName result }
 {
-    match b as char {
-        '.' => Word::Dot,
-        '+' => Word::Plus,
-        '=' => Word::Equals,
-        ';' => Word::Ends,
-        '(' => Word::Opens,
-        ')' => Word::Closes,
-        '{' => Word::Enter,
-        '}' => Word::Leave,
+    match b {
+        b'.' => Word::Dot,
+        b'+' => Word::Plus,
+        b'=' => Word::Equals,
+        b';' => Word::Ends,
+        b'(' => Word::Opens,
+        b')' => Word::Closes,
+        b'{' => Word::Enter,
+        b'}' => Word::Leave,
         _ => Word::Alien,
     }
 }
 
-// The kinds of bytes that runs consist of.
-#[derive(Clone, Copy)]
-enum Class {
-    Blank,
-    Digit,
-    Alnum,
-}
-
-fn is_of(class: Class, b: u8) -> bool
-    ensures { result ≡ test class b }
-{
-    match class {
-        Class::Blank => is_blank(b),
-        Class::Digit => is_digit(b),
-        Class::Alnum => is_alnum(b),
-    }
-}
-
-// The end of the longest run of a class that begins at `from`.
-fn run_end(text: &[u8], from: usize, class: Class) -> usize
-    ensures end { result ≡ from + prefix_len (test class) (drop from text.now) }
+// The end of the longest run that begins at `from` of bytes that pass a test.
+fn run_end<F: FnMut(&u8) -> bool>(text: &[u8], from: usize, passes: F) -> usize
+    requires { (f : _) (b : _) → F.pre f b }
+    ensures end { (test : ℕ → Bool) → Tells F.FnMut passes test → result ≡ from + prefix_len test (drop from text.now) }
+    ensures behind { from ≤ result }
     ensures within { from ≤ length text.now → result ≤ length text.now }
-    ensures stops { result < length text.now → test class (slice_index text.now result) ≡ false }
 {
-    let mut at = from;
-    while at < text.len() {
-        if !is_of(class, text[at]) {
-            return at;
-        }
-        at += 1;
-    }
-    at
+    from + text.iter().skip(from).copied().take_while(passes).count()
 }
 
 // Whether two texts are the same.
@@ -109,64 +57,50 @@ fn run_word<'a>(run: &'a [u8]) -> Word<'a>
     ensures kind { kind_of result ≡ run_kind run.now }
     ensures spells { Spells run.now result }
 {
-    if run.len() == 0 {
-        return Word::Other;
+    match run {
+        [b'A'..=b'Z', ..] => Word::Name(run),
+        b"module" => Word::Module,
+        b"0" => Word::Nil,
+        b"w" => Word::Wait,
+        b"i" => Word::Act(0),
+        _ => Word::Other,
     }
-    if is_capital(run[0]) {
-        return Word::Name(run);
-    }
-    if same_bytes(run, b"module") {
-        return Word::Module;
-    }
-    if same_bytes(run, b"0") {
-        return Word::Nil;
-    }
-    if same_bytes(run, b"w") {
-        return Word::Wait;
-    }
-    if same_bytes(run, b"i") {
-        return Word::Act(0);
-    }
-    Word::Other
 }
 
-// The number where it is at most the last port, else 0.
-fn port_up_to(n: u16) -> u8
-    ensures value { result ≡ port_up_to n }
-    ensures small { result ≤ 31 }
+// A number as the action that receives on that port, if it is a port.
+fn port_up_to(number: u16) -> Option<i8>
+    ensures { result ≡ port_up_to number }
 {
-    if n > LAST_PORT { 0 } else { n as u8 }
+    match number {
+        1..=LAST_PORT => Some(number as i8),
+        _ => None,
+    }
 }
 
-// The port that digits name, or 0.
-fn port_number(digits: &[u8]) -> u8
-    ensures value { result ≡ port_of digits.now }
-    ensures small { result ≤ 31 }
+// The action that receives on the port that digits name. They name one if they are one or two, with no zero in front.
+fn port(digits: &[u8]) -> Option<i8>
+    ensures { result ≡ port_of digits.now }
 {
-    if digits.len() == 1 {
-        return port_up_to(digits[0].saturating_sub(48) as u16);
+    match digits {
+        [ones] => port_up_to(ones.saturating_sub(b'0') as u16),
+        [b'0', _] => None,
+        [tens, ones] => {
+            let tens = tens.saturating_sub(b'0') as u16;
+            let ones = ones.saturating_sub(b'0') as u16;
+            port_up_to(tens * 10 + ones)
+        }
+        _ => None,
     }
-    if digits.len() != 2 || digits[0] == 48 {
-        return 0;
-    }
-    let tens = digits[0].saturating_sub(48) as u16;
-    let ones = digits[1].saturating_sub(48) as u16;
-    port_up_to(tens * 10 + ones)
 }
 
-// A `?` or `!` with these digits.
-fn port<'a>(digits: &[u8], sends: bool) -> Word<'a>
-    ensures kind { kind_of result ≡ ported (port_of digits.now) (if sends then minus else pos) }
+// A `?` or `!` whose port makes this action, if it has one.
+fn act<'a>(action: Option<i8>) -> Word<'a>
+    ensures kind { kind_of result ≡ ported action }
     ensures plain { NoName result }
 {
-    let number = port_number(digits);
-    if number == 0 {
-        return Word::Bad;
-    }
-    if sends {
-        Word::Act(-(number as i8))
-    } else {
-        Word::Act(number as i8)
+    match action {
+        Some(action) => Word::Act(action),
+        None => Word::Bad,
     }
 }
 
@@ -175,30 +109,28 @@ fn port<'a>(digits: &[u8], sends: bool) -> Word<'a>
 pub fn next_word<'a>(text: &'a [u8], from: usize) -> Option<Found<'a>>
     ensures { Cuts text.now from result }
 {
-    let at = run_end(text, from, Class::Blank);
-    if at >= text.len() {
-        return None;
+    let at = run_end(text, from, |b| is_blank(*b));
+    let b = *text.get(at)?;
+    match b {
+        b'?' => {
+            let end = run_end(text, at + 1, |b| b.is_ascii_digit());
+            let word = act(port(&text[at + 1..end]));
+            Some(Found { at, end, word })
+        }
+        b'!' => {
+            let end = run_end(text, at + 1, |b| b.is_ascii_digit());
+            let word = act(port(&text[at + 1..end]).and_then(|action| opposite(action)));
+            Some(Found { at, end, word })
+        }
+        _ if b.is_ascii_alphanumeric() => {
+            let end = run_end(text, at + 1, |b| b.is_ascii_alphanumeric());
+            let word = run_word(&text[at..end]);
+            Some(Found { at, end, word })
+        }
+        _ => Some(Found {
+            at,
+            end: at + 1,
+            word: mark(b),
+        }),
     }
-    let b = text[at];
-    if is_alnum(b) {
-        let end = run_end(text, at + 1, Class::Alnum);
-        let word = run_word(&text[at..end]);
-        return Some(Found { at, end, word });
-    }
-    if b as char == '?' {
-        let end = run_end(text, at + 1, Class::Digit);
-        let word = port(&text[at + 1..end], false);
-        return Some(Found { at, end, word });
-    }
-    if b as char == '!' {
-        let end = run_end(text, at + 1, Class::Digit);
-        let word = port(&text[at + 1..end], true);
-        return Some(Found { at, end, word });
-    }
-    let word = mark(b);
-    Some(Found {
-        at,
-        end: at + 1,
-        word,
-    })
 }

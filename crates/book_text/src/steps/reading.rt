@@ -1,24 +1,17 @@
 // Reading a text, word by word.
-ghost use Rattle.std.specs.Prelude.{◌≡◌, ℕ, ◌+◌, ◌-◌, ◌^◌, ◌<◌, ◌≤◌, length, take, drop};
+ghost use Rattle.std.specs.Prelude.{◌≡◌, ◌+◌, ◌-◌, ◌^◌, ◌<◌, length, take, drop};
 ghost use Rattle.book_words.specs.Shown.{kind_of, Spells};
 ghost use Rattle.book_text.specs.Parsers.{view};
-ghost use Rattle.book_text.specs.Steps.{Steady, Leads, Blank};
+ghost use Rattle.book_text.specs.Steps.{Steady, Leads};
 ghost use Rattle.book_grammar.specs.Examples.{Worked};
 ghost use Rattle.book_text.specs.Cases.{WorkedOut};
 ghost use Rattle.book_text.specs.Promises.{Promises};
-ghost use Rattle.book_text.specs.Outcomes.{ReadsWords, ReadsRows, Reads, ZeroedPlaces, ZeroedModules};
+ghost use Rattle.book_text.specs.Outcomes.{ReadsWords, ReadsRows, Reads};
 
-use super::{
-    go_on, is_in, on_act, on_bad, on_closes, on_ends, on_leave, on_module, on_name, on_nil,
-    on_opens, on_plus, on_wait,
-};
 use crate::fault::{BookFault, WordFault};
-use crate::parser::{
-    Label, MOST_EQUATIONS, MOST_MODULES, MOST_PARENTHESES, MOST_PLACES, Open, Parser, Span, Stack,
-    State,
-};
+use crate::parser::{Open, Parser, State};
 use book::try_rows;
-use book_words::{Found, Word, next_word};
+use book_words::{Found, Word, Words};
 use rows::{ModuleRow, Place};
 
 // How many rows a reading used.
@@ -28,65 +21,42 @@ pub struct Used {
     pub modules: usize,
 }
 
-fn new_parser() -> Parser
-    ensures { Blank result }
-{
-    let nowhere = Span { at: 0, size: 0 };
-    let unnamed = Label {
-        name: nowhere,
-        place: 0,
-    };
-    let stack = Stack {
-        ops: [Open::Waiting; MOST_PLACES],
-        pending: 0,
-        floors: [0; MOST_PARENTHESES],
-        parens: 0,
-    };
-    Parser {
-        state: State::Outside,
-        stack,
-        first: 0,
-        rows: 0,
-        names: [nowhere; MOST_PLACES],
-        lefts: [unnamed; MOST_EQUATIONS],
-        equations: 0,
-        titles: [unnamed; MOST_MODULES],
-        begun: 0,
-        done: 0,
-    }
-}
-
-// What a word does; the smallest number that holds refuses it.
-fn step(
-    parser: &mut Parser,
-    text: &[u8],
-    found: Found<'_>,
-    places: &mut [Place],
-    modules: &mut [ModuleRow],
-) -> Result<(), BookFault>
-    requires steady { Steady found.at parser.old (length places.old) (length modules.old) }
-    requires fits { found.at + 1 < 2 ^ 64 }
-    requires spells { Spells (take (found.end - found.at) (drop found.at text.now)) found.word }
-    ensures { Leads (length places.old) (length modules.old) (length text.now) (view text.now parser.old places.old modules.old) (kind_of found.entry.word) found.entry.at (view text.now parser.new places.new modules.new) parser.new result }
-{
-    let at = found.at;
-    match found.word {
-        Word::Alien => Err(BookFault::Word(WordFault::Alien(at))),
-        Word::Other => Err(BookFault::NotAllowed(at)),
-        Word::Bad => on_bad(parser, at),
-        Word::Module => on_module(parser, modules.len(), at),
-        Word::Name(x) => on_name(parser, text, places, x, at),
-        Word::Enter => go_on(parser, State::Brace, State::Left, at),
-        Word::Leave => on_leave(parser, text, places, modules, at),
-        Word::Equals => go_on(parser, State::Equal, State::Term, at),
-        Word::Dot => go_on(parser, State::Point, State::Term, at),
-        Word::Nil => on_nil(parser, places, at),
-        Word::Wait => on_wait(parser, at),
-        Word::Act(a) => on_act(parser, a, at),
-        Word::Plus => on_plus(parser, at),
-        Word::Opens => on_opens(parser, at),
-        Word::Closes => on_closes(parser, places, at),
-        Word::Ends => on_ends(parser, at),
+impl Parser {
+    // What a word does; the smallest number that holds refuses it.
+    fn step(
+        &mut self,
+        text: &[u8],
+        found: Found<'_>,
+        places: &mut [Place],
+        modules: &mut [ModuleRow],
+    ) -> Result<(), BookFault>
+        requires steady { Steady found.at self.old (length places.old) (length modules.old) }
+        requires fits { found.at + 1 < 2 ^ 64 }
+        requires spells { Spells (take (found.end - found.at) (drop found.at text.now)) found.word }
+        ensures { Leads (length places.old) (length modules.old) (length text.now) (view text.now self.old places.old modules.old) (kind_of found.entry.word) found.entry.at (view text.now self.new places.new modules.new) self.new result }
+    {
+        let at = found.at;
+        match found.word {
+            Word::Alien => Err(BookFault::Word(WordFault::Alien(at))),
+            Word::Other => Err(BookFault::NotAllowed(at)),
+            Word::Bad => self.on_bad(at),
+            Word::Module => self.on_module(modules.len(), at),
+            Word::Name(x) => self.on_name(text, places, x, at),
+            Word::Enter => self.go_on(State::Brace, State::Left, at),
+            Word::Leave => self.on_leave(text, places, modules, at),
+            Word::Equals => self.go_on(State::Equal, State::Term, at),
+            Word::Dot => self.go_on(State::Point, State::Term, at),
+            Word::Nil => self.on_nil(places, at),
+            Word::Wait => self.open(State::Term, Open::Waiting, State::Point, at),
+            Word::Act(a) => self.open(State::Term, Open::Acting(a), State::Point, at),
+            Word::Plus => {
+                let sum = Open::Adding(self.rows.saturating_sub(1));
+                self.open(State::After, sum, State::Term, at)
+            }
+            Word::Opens => self.on_opens(at),
+            Word::Closes => self.on_closes(places, at),
+            Word::Ends => self.on_ends(at),
+        }
     }
 }
 
@@ -98,41 +68,15 @@ fn read_words(
 ) -> Result<Used, BookFault>
     ensures { ReadsWords text.now places.old modules.old places.new modules.new result }
 {
-    let mut parser = new_parser();
-    let mut at = 0;
-    while let Some(found) = next_word(text, at) {
-        step(&mut parser, text, found, places, modules)?;
-        at = found.end;
+    let mut parser = Parser::new();
+    for found in Words::of(text) {
+        parser.step(text, found, places, modules)?;
     }
-    if is_in(parser.state, State::Outside) {
-        Ok(Used {
-            places: parser.first,
-            modules: parser.done,
-        })
-    } else {
-        Err(BookFault::NotAllowed(text.len()))
-    }
-}
-
-// Zeroes the rows from a number on.
-fn clear_places(places: &mut [Place], from: usize)
-    ensures { ZeroedPlaces from places.old places.new }
-{
-    for i in from..places.len() {
-        places[i] = Place::Nil;
-    }
-}
-
-fn clear_modules(modules: &mut [ModuleRow], from: usize)
-    ensures { ZeroedModules from modules.old modules.new }
-{
-    for i in from..modules.len() {
-        modules[i] = ModuleRow {
-            first: 0,
-            places: 0,
-            start: 0,
-        };
-    }
+    parser.expect(State::Outside, text.len())?;
+    Ok(Used {
+        places: parser.first,
+        modules: parser.done,
+    })
 }
 
 // Reads the words into the rows, and then tries the rows as opening does.
@@ -144,9 +88,7 @@ fn read_rows(
     ensures { ReadsRows text.now places.old modules.old places.new modules.new result }
 {
     let used = read_words(text, places, modules)?;
-    let all = used.places;
-    let parts = used.modules;
-    try_rows(&places[0..all], &modules[0..parts])?;
+    try_rows(&places[..used.places], &modules[..used.modules])?;
     Ok(used)
 }
 
@@ -159,13 +101,13 @@ pub fn read(text: &[u8], places: &mut [Place], modules: &mut [ModuleRow]) -> Res
 {
     match read_rows(text, places, modules) {
         Ok(used) => {
-            clear_places(places, used.places);
-            clear_modules(modules, used.modules);
+            places[used.places..].fill(Place::Nil);
+            modules[used.modules..].fill(ModuleRow::default());
             Ok(used)
         }
         Err(fault) => {
-            clear_places(places, 0);
-            clear_modules(modules, 0);
+            places.fill(Place::Nil);
+            modules.fill(ModuleRow::default());
             Err(fault)
         }
     }

@@ -1,54 +1,67 @@
-use Rattle.std.proofs.Common.{◌<◌, length, sym, ◌∙◌, arith}
+use Rattle.std.proofs.Common.{sym, ap, ◌∙◌, arith, rules}
+use Rattle.std.specs.Char.{is_ascii_digit, is_ascii_alphanumeric}
+use Rattle.book_words.specs.Words.{blank, ported, mark_kind}
 use Rattle.book_words.proofs.Cutting.{cut_none, cut_run, cut_ask, cut_tell, cut_mark, no_name}
 use Rattle.book_words.proofs.reader.next_word.Goals as goal
 
-pub returns-then-at-text : goal.returns-then-at-text
-returns-then-at-text c = cut_none c.args.text.now c.args.from c.run_end-at.result c.run_end-at.ensures.end c.if-at-text.true
+pub returns-in_err-b : goal.returns-in_err-b
+returns-in_err-b c =
+    let blanks = c.run_end-at.ensures.end blank (λ b r f k. search rules) in
+    let none = cut_none c.args.text.now c.args.from c.run_end-at.result blanks c.in_err-b.ensures.lookup.3 in
+    search rules
 
-pub returns-then-is_alnum : goal.returns-then-is_alnum
-returns-then-is_alnum c =
-    let h : c.run_end-at.result < length c.args.text.now = c.if-at-text.false in
+pub returns-in-63 : goal.returns-in-63
+returns-in-63 c =
+    let blanks = c.run_end-at.ensures.end blank (λ b r f k. search rules) in
+    let digits = c.run_end-end.ensures.end is_ascii_digit (λ b r f k. search rules) in
+    let l = c.in_ok-b.ensures.lookup.3 in
     record {
-      words = cut_run c.args.text.now c.args.from c.run_end-at.result c.run_end-end.result _ c.run_end-at.ensures.end h
-          (c.run_end-at.ensures.stops h) (sym c.is_alnum.ensures ∙ c.if-is_alnum.true) c.run_end-end.ensures.end c.run_word-word.ensures.kind;
-      behind = omega (arith, c.run_end-at.ensures.end);
-      ends = omega (arith, c.run_end-end.ensures.end);
+      words = cut_ask c.args.text.now c.args.from c.run_end-at.result c.run_end-end.result _ blanks l.0
+          (sym (l.1 0) ∙ c.in-63.is) digits (c.act-word.ensures.kind ∙ ap ported c.port.ensures);
+      behind = c.run_end-at.ensures.behind;
+      ends = omega (arith, c.run_end-end.ensures.behind);
       within = c.run_end-end.ensures.within (omega arith);
+      spells = no_name _ _ c.act-word.ensures.plain;
+    }
+
+pub returns-in-33 : goal.returns-in-33
+returns-in-33 c =
+    let blanks = c.run_end-at.ensures.end blank (λ b r f k. search rules) in
+    let digits = c.run_end-end-in-33.ensures.end is_ascii_digit (λ b r f k. search rules) in
+    let l = c.in_ok-b.ensures.lookup.3 in
+    record {
+      words = cut_tell c.args.text.now c.args.from c.run_end-at.result c.run_end-end-in-33.result _ blanks l.0
+          (sym (l.1 0) ∙ c.in-33.is) digits (c.act-word-in-33.ensures.kind ∙ search rules);
+      behind = c.run_end-at.ensures.behind;
+      ends = omega (arith, c.run_end-end-in-33.ensures.behind);
+      within = c.run_end-end-in-33.ensures.within (omega arith);
+      spells = no_name _ _ c.act-word-in-33.ensures.plain;
+    }
+
+pub returns-in_default : goal.returns-in_default
+returns-in_default c =
+    let blanks = c.run_end-at.ensures.end blank (λ b r f k. search rules) in
+    let run = c.run_end-end-in_default.ensures.end is_ascii_alphanumeric (λ b r f k. search rules) in
+    let l = c.in_ok-b.ensures.lookup.3 in
+    record {
+      words = cut_run c.args.text.now c.args.from c.run_end-at.result c.run_end-end-in_default.result _ blanks l.0
+          (ap is_ascii_alphanumeric (sym (l.1 0)) ∙ sym c.is_ascii_alphanumeric.ensures.value ∙ c.if-is_ascii_alphanumeric.true) run c.run_word-word.ensures.kind;
+      behind = c.run_end-at.ensures.behind;
+      ends = omega (arith, c.run_end-end-in_default.ensures.behind);
+      within = c.run_end-end-in_default.ensures.within (omega arith);
       spells = c.run_word-word.ensures.spells;
     }
 
-pub returns-then-b-eq63 : goal.returns-then-b-eq63
-returns-then-b-eq63 c =
-    let h : c.run_end-at.result < length c.args.text.now = c.if-at-text.false in
+pub returns-in_default-2 : goal.returns-in_default-2
+returns-in_default-2 c =
+    let blanks = c.run_end-at.ensures.end blank (λ b r f k. search rules) in
+    let l = c.in_ok-b.ensures.lookup.3 in
     record {
-      words = cut_ask c.args.text.now c.args.from c.run_end-at.result c.run_end-end-then-b-eq63.result _ c.run_end-at.ensures.end h
-          c.if-b-eq63.true c.run_end-end-then-b-eq63.ensures.end c.port-word.ensures.kind;
-      behind = omega (arith, c.run_end-at.ensures.end);
-      ends = omega (arith, c.run_end-end-then-b-eq63.ensures.end);
-      within = c.run_end-end-then-b-eq63.ensures.within (omega arith);
-      spells = no_name _ _ c.port-word.ensures.plain;
-    }
-
-pub returns-then-b-eq33 : goal.returns-then-b-eq33
-returns-then-b-eq33 c =
-    let h : c.run_end-at.result < length c.args.text.now = c.if-at-text.false in
-    record {
-      words = cut_tell c.args.text.now c.args.from c.run_end-at.result c.run_end-end-then-b-eq33.result _ c.run_end-at.ensures.end h
-          c.if-b-eq33.true c.run_end-end-then-b-eq33.ensures.end c.port-word-then-b-eq33.ensures.kind;
-      behind = omega (arith, c.run_end-at.ensures.end);
-      ends = omega (arith, c.run_end-end-then-b-eq33.ensures.end);
-      within = c.run_end-end-then-b-eq33.ensures.within (omega arith);
-      spells = no_name _ _ c.port-word-then-b-eq33.ensures.plain;
-    }
-
-pub returns : goal.returns
-returns c =
-    let h : c.run_end-at.result < length c.args.text.now = c.if-at-text.false in
-    record {
-      words = cut_mark c.args.text.now c.args.from c.run_end-at.result _ c.run_end-at.ensures.end h
-          (c.run_end-at.ensures.stops h) (sym c.is_alnum.ensures ∙ c.if-is_alnum.false) c.if-b-eq63.false c.if-b-eq33.false c.mark-word.ensures.kind;
-      behind = omega (arith, c.run_end-at.ensures.end);
+      words = cut_mark c.args.text.now c.args.from c.run_end-at.result _ blanks l.0
+          (ap is_ascii_alphanumeric (sym (l.1 0)) ∙ sym c.is_ascii_alphanumeric.ensures.value ∙ c.if-is_ascii_alphanumeric.false)
+          (λ e. omega (arith, c.in_default, e, l.1 0)) (λ e. omega (arith, c.in_default, e, l.1 0)) (c.mark.ensures.kind ∙ ap mark_kind (l.1 0));
+      behind = c.run_end-at.ensures.behind;
       ends = omega arith;
       within = omega arith;
-      spells = no_name _ _ c.mark-word.ensures.plain;
+      spells = no_name _ _ c.mark.ensures.plain;
     }

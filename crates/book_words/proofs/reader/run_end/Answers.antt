@@ -1,21 +1,14 @@
-use Rattle.std.proofs.Common.{◌≡◌, true, false, get_or, sym, ◌∙◌, arith}
-use Rattle.std.proofs.lemmas.List.Sums.{prefix_len-drop_yes, prefix_len-drop_no, prefix_len-drop_all}
-use Rattle.book_words.specs.Shown.{test}
+use Rattle.std.proofs.Common.{◌+◌, drop, ap, ◌∙◌}
+use Rattle.std.proofs.lemmas.Iterator.{YieldsList-from_slice}
+use Rattle.std.proofs.lemmas.Iterator.Adapters.{YieldsList-from_skip}
+use Rattle.std.proofs.lemmas.Iterator.Consumers.{count_from_yields_List, YieldsList-from_copied}
+use Rattle.std.proofs.lemmas.Iterator.Search.{YieldsList-from_take_while}
+use Rattle.std.proofs.lemmas.List.Folds.{length-prefix_len}
 use Rattle.book_words.proofs.reader.run_end.Goals as goal
 
-pub returns-then-not-is_of : goal.returns-then-not-is_of
-returns-then-not-is_of c =
-    let h : test c.args.class (get_or c.args.text.now c.loop-at.at 0) ≡ false = sym c.is_of.ensures ∙ c.if-not-is_of.true in
-    let n = prefix_len-drop_no (test c.args.class) c.args.text.now c.loop-at.at 0 c.loop-at-test.true h in
-    record { end = omega (arith, c.loop-at.invariant.1); within = c.loop-at.invariant.0; stops = λ l. h }
-
-pub loop-at-preserved : goal.loop-at-preserved
-loop-at-preserved c =
-    let h : test c.args.class (get_or c.args.text.now c.loop-at.at 0) ≡ true = sym c.is_of.ensures ∙ c.if-not-is_of.false in
-    let n = prefix_len-drop_yes (test c.args.class) c.args.text.now c.loop-at.at 0 c.loop-at-test.true h in
-    (λ k. omega arith, omega (arith, c.loop-at.invariant.1))
-
-pub returns : goal.returns
-returns c =
-    let n = prefix_len-drop_all (test c.args.class) c.args.text.now c.loop-at.at c.loop-at-test.false in
-    record { end = omega (arith, c.loop-at.invariant.1); within = c.loop-at.invariant.0; stops = λ l. absurd (omega arith) }
+pub returns-clause-end : goal.returns-clause-end
+returns-clause-end g c test tells =
+    let bytes = YieldsList-from_copied (YieldsList-from_skip c.args.from (YieldsList-from_slice c.args.text.now cc) cc) in
+    let run = YieldsList-from_take_while _ test bytes c.take_while.ensures.closure c.take_while.ensures.done tells in
+    let is = count_from_yields_List c.take_while.result _ c.count.ensures.ran run ∙ length-prefix_len test (drop c.args.from c.args.text.now) in
+    ap (λ n. c.args.from + n) is

@@ -1,0 +1,33 @@
+use Rattle.std.proofs.Common.{◌≡◌, ◌<◌, length, get_or, ◌+◌, refl, ap, ◌∙◌, arith, rules}
+use Rattle.std.proofs.lemmas.List.{length-take, get_or-take}
+use Rattle.book_text.specs.declared.parser.Span.{Span}
+use Rattle.rows.specs.declared.row.Place.TheVariants.{Nil}
+use Rattle.book_text.specs.Parsers.{row_in}
+use Rattle.book_text.specs.Settling.{settled_row, sides_of}
+use Rattle.book_text.proofs.Rowing.{nowhere}
+use Rattle.book_text.proofs.Settling.{settling_more, settling_lost}
+use Rattle.book_text.proofs.parser.Parser.settle.Goals as goal
+
+pub loop-i-preserved : goal.loop-i-preserved
+loop-i-preserved c =
+    let d = c.args.self.now in
+    let kept : length d.names ≡ 256 = search rules in
+    let long = length-take c.from.result d.names in
+    let here : c.loop-i.i < d.rows = omega (arith, c.loop-i-test.true, c.from.ensures) in
+    let span = get_or-take c.from.result d.names c.loop-i.i nowhere (omega (arith, c.from.ensures)) in
+    settling_more c.args.text.now d c.args.places.now c.requires.few kept c.requires.room c.loop-i.places c.loop-i.i c.in-Some.place here
+    (c.in-Some.ensures ∙ ap (λ (s : Span). settled_row (sides_of c.args.text.now d) (row_in c.args.text.now s (get_or c.loop-i.places (d.first + c.loop-i.i) Nil))) span)
+    c.loop-i.invariant
+
+pub returns-in_default : goal.returns-in_default
+returns-in_default c =
+    let d = c.args.self.now in
+    let kept : length d.names ≡ 256 = search rules in
+    let long = length-take c.from.result d.names in
+    let here : c.loop-i.i < d.rows = omega (arith, c.loop-i-test.true, c.from.ensures) in
+    let span = get_or-take c.from.result d.names c.loop-i.i nowhere (omega (arith, c.from.ensures)) in (
+      settling_lost c.args.text.now d c.args.places.now c.requires.few kept c.requires.room c.loop-i.places c.loop-i.i here
+          (c.in_default.ensures ∙ ap (λ (s : Span). settled_row (sides_of c.args.text.now d) (row_in c.args.text.now s (get_or c.loop-i.places (d.first + c.loop-i.i) Nil))) span)
+          c.loop-i.invariant,
+      refl,
+    )
