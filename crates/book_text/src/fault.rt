@@ -36,6 +36,7 @@ pub enum BookFault {
     Rows(RowsFault),
 }
 
+// By hand: a derived conversion has no contract, and clauses name the error that `?` makes.
 impl From<WordFault> for BookFault {
     ghost from_gives = { λ e r. r ≡ Word e };
 
@@ -44,6 +45,7 @@ impl From<WordFault> for BookFault {
     }
 }
 
+// By hand: a derived conversion has no contract, and clauses name the error that `?` makes.
 impl From<RowsFault> for BookFault {
     ghost from_gives = { λ e r. r ≡ Rows e };
 
@@ -53,7 +55,7 @@ impl From<RowsFault> for BookFault {
 }
 
 impl WordFault {
-    // The number of the refusal.
+    // The number of the refusal. Each enum of refusals has such a table of its own; a trait of the eight would say no more of them.
     pub fn number(self) -> u8
         ensures { result ≡ number_of (Word self) }
     {
@@ -66,7 +68,7 @@ impl WordFault {
 }
 
 impl BookFault {
-    // The number of the refusal.
+    // The number of the refusal. Each enum of refusals has such a table of its own; a trait of the eight would say no more of them.
     pub fn number(self) -> u8
         ensures { result ≡ number_of self }
     {

@@ -56,7 +56,7 @@ pub struct TimeAnswer {
 }
 
 impl DrawFault {
-    // The number that the refusal is told by.
+    // The number of the refusal. Each enum of refusals has such a table of its own; a trait of the eight would say no more of them.
     pub fn number(self) -> u8
         ensures { result ≡ draw_number self }
     {
@@ -70,7 +70,7 @@ impl DrawFault {
 }
 
 impl SwapFault {
-    // The number that the refusal is told by.
+    // The number of the refusal. Each enum of refusals has such a table of its own; a trait of the eight would say no more of them.
     pub fn number(self) -> u8
         ensures { result ≡ swap_number self }
     {
@@ -83,7 +83,7 @@ impl SwapFault {
 }
 
 impl TimeFault {
-    // The number that the refusal is told by.
+    // The number of the refusal. Each enum of refusals has such a table of its own; a trait of the eight would say no more of them.
     pub fn number(self) -> u8
         ensures { result ≡ time_number self }
     {
@@ -94,6 +94,7 @@ impl TimeFault {
     }
 }
 
+// By hand: a derived conversion has no contract, and clauses name the error that `?` makes.
 impl From<RenamingFault> for DrawFault {
     ghost from_gives = { λ e r. r ≡ Renaming e };
 
@@ -102,6 +103,7 @@ impl From<RenamingFault> for DrawFault {
     }
 }
 
+// By hand: a derived conversion has no contract, and clauses name the error that `?` makes.
 impl From<CompareFault> for SwapFault {
     ghost from_gives = { λ e r. r ≡ Compare e };
 

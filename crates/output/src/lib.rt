@@ -46,6 +46,7 @@ pub enum FileFault {
     Table(TableFault),
 }
 
+// By hand: a derived conversion has no contract, and clauses name the error that `?` makes.
 impl From<BookFault> for FileFault {
     ghost from_gives = { λ e r. r ≡ BookAt e };
 
@@ -54,6 +55,7 @@ impl From<BookFault> for FileFault {
     }
 }
 
+// By hand: a derived conversion has no contract, and clauses name the error that `?` makes.
 impl From<TableFault> for FileFault {
     ghost from_gives = { λ e r. r ≡ TableAt e };
 

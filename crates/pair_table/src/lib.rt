@@ -11,7 +11,8 @@ use std::fmt;
 // The most rows of a table that are ever filled.
 pub const MOST_ROWS: usize = 32_768;
 
-// A pair of a new and an old state, and the first round that drops it, 0 where none does.
+// A pair of a new and an old state, and the first round that drops it: 0 where none does, the number that is printed, and so
+// that lent rows are three numbers.
 #[derive(Clone, Copy, Debug, Default, PartialEq, Eq)]
 pub struct PairRow {
     pub new: u32,
@@ -35,7 +36,7 @@ pub enum CompareFault {
 }
 
 impl CompareFault {
-    // The number that the refusal is told by.
+    // The number of the refusal. Each enum of refusals has such a table of its own; a trait of the eight would say no more of them.
     pub fn number(self) -> u8
         ensures { result ≡ refusal_number self }
     {

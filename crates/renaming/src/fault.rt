@@ -17,7 +17,7 @@ pub enum RenamingFault {
 }
 
 impl RenamingFault {
-    // The refusal's number.
+    // The number of the refusal. Each enum of refusals has such a table of its own; a trait of the eight would say no more of them.
     pub fn number(self) -> u8
         ensures { result ≡ refusal_number self }
     {

@@ -30,7 +30,7 @@ pub enum RowsFault {
 }
 
 impl RowsFault {
-    // The number of the refusal.
+    // The number of the refusal. Each enum of refusals has such a table of its own; a trait of the eight would say no more of them.
     pub fn number(self) -> u8
         ensures { result ≡ refusal_number self }
     {
@@ -64,7 +64,7 @@ impl RowsFault {
         }
     }
 
-    // The number of the place, 0 where the fault is none of a place.
+    // The number of the place, as the output tells it: 0 where the fault is none of a place.
     pub fn place(self) -> usize
         ensures { result ≡ place_of self }
     {

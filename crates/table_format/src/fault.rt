@@ -37,6 +37,7 @@ pub enum TableFault {
     NoMemory,
 }
 
+// By hand: a derived conversion has no contract, and clauses name the error that `?` makes.
 impl From<AllocError> for TableFault {
     ghost from_gives = { λ _ r. r ≡ NoMemory };
 
@@ -46,7 +47,8 @@ impl From<AllocError> for TableFault {
 }
 
 impl TableFault {
-    // The number of the refusal; want of memory has none.
+    // The number of the refusal; want of memory has none. Each enum of refusals has such a table of its own; a trait of the
+    // eight would say no more of them.
     pub fn number(self) -> Option<u8>
         ensures { result ≡ refusal_number self }
     {
@@ -66,7 +68,7 @@ impl TableFault {
         }
     }
 
-    // The offset that is told with the number; 0 where there is none.
+    // The offset that is told with the number, as the output tells it: 0 where there is none.
     pub fn place(self) -> usize
         ensures { result ≡ place_of self }
     {

@@ -3,7 +3,7 @@ ghost use Rattle.std.specs.Prelude.{◌≡◌};
 ghost use Rattle.table_format.specs.Numbers.{byte_action, pair_in};
 ghost use Rattle.table_format.specs.Reading.{after_in};
 
-// The tick target that stands for no tick.
+// The tick target that stands for no tick: a number of the format, which a reader turns into `None` at once.
 pub const NO_TICK: u16 = 65535;
 
 // The signed number in an action byte.
