@@ -37,8 +37,7 @@ no_append : {A : Type 0} (xs ys : List A) → length (xs ++ ys) ≡ 0 → (lengt
 no_append xs ys e = (omega (arith, length-append xs ys), omega (arith, length-append xs ys))
 
 either_false : (a b : Bool) → a ≡ false → b ≡ false → (a || b) ≡ false
-either_false true b p q = p
-either_false false b p q = q
+either_false a b p q = rw (p, q)
 
 -- ── the walk goes on ──
 

@@ -34,10 +34,8 @@ summary_next ps f i = go (row ps i)
 summary_same : (p : Place) (n : ℕ) (g h : ℕ → Summary) → inside n p ≡ true → ((j : ℕ) → j < n → g j ≡ h j) → summary_by p g ≡ summary_by p h
 summary_same Nil n g h i e = refl
 summary_same (Act a j) n g h i e = refl
-summary_same (Wait j) n g h i e = ap (λ (x : Summary). record { guarded = x.guarded; depth = min ages (suc x.depth); moves = x.moves }) (e j (ltb-true j n i))
-summary_same (Sum l r) n g h i e =
-    ap (λ (x : Summary). record { guarded = x.guarded && (g r).guarded; depth = max x.depth (g r).depth; moves = min (suc most_moves) (x.moves + (g r).moves) }) (e l (ltb-true l n (both_l (ltb l n) (ltb r n) i)))
-    ∙ ap (λ (x : Summary). record { guarded = (h l).guarded && x.guarded; depth = max (h l).depth x.depth; moves = min (suc most_moves) ((h l).moves + x.moves) }) (e r (ltb-true r n (both_r (ltb l n) (ltb r n) i)))
+summary_same (Wait j) n g h i e = rw (e j (ltb-true j n i))
+summary_same (Sum l r) n g h i e = rw (e l (ltb-true l n (both_l (ltb l n) (ltb r n) i)), e r (ltb-true r n (both_r (ltb l n) (ltb r n) i)))
 summary_same (Name j) n g h i e = e j (ltb-true j n i)
 
 -- followed through no place, each summary is the default

@@ -24,7 +24,7 @@ impl Summary {
     }
 
     // The summary of a place, from those of the places that it leads to.
-    pub fn of(place: Place, summaries: &[Summary]) -> Summary
+    pub(super) fn of(place: Place, summaries: &[Summary]) -> Summary
         ensures { result ≡ summary_by place (λ j. get_or summaries.now j unknown) }
     {
         match place {

@@ -48,7 +48,7 @@ fn first_deep(summaries: &[Summary]) -> Option<usize>
 }
 
 // The first place with too many moves.
-fn first_rich(summaries: &[Summary]) -> Option<usize>
+fn first_with_many_moves(summaries: &[Summary]) -> Option<usize>
     ensures { result ≡ position (λ s. not (nat_le s.moves most_moves)) summaries.now }
 {
     summaries.iter().position(|summary| summary.moves > 64)
@@ -113,7 +113,7 @@ impl Module<'_> {
         if let Some(place) = first_deep(own) {
             return Err(RowsFault::Deep { part, place });
         }
-        if let Some(place) = first_rich(own) {
+        if let Some(place) = first_with_many_moves(own) {
             return Err(RowsFault::ManyMoves { part, place });
         }
         Ok(summaries)

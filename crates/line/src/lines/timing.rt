@@ -2,11 +2,10 @@
 ghost use Rattle.std.specs.Prelude.{◌≡◌, min, not, ◌&&◌, length, ℤ, IfOk, nat_lt, is_some};
 ghost use Rattle.std.specs.List.{list_all, zip};
 ghost use Rattle.line.specs.declared.lines.Slot.{Slot};
-ghost use Rattle.action.specs.Lists.{every};
 ghost use Rattle.action.specs.Sets.{has};
 ghost use Rattle.catalogue.specs.Catalogue.{module_in, state_in, codes as codes_of};
 ghost use Rattle.line_rules.specs.Line.{hides};
-ghost use Rattle.line_rules.specs.Time.{gathers, slot_ticks, knows, stands, time_answer, Tells};
+ghost use Rattle.line_rules.specs.Time.{gathers, stands, time_answer, Tells};
 ghost use Rattle.line_rules.specs.Cases.{Worked};
 ghost use Rattle.line.specs.Meaning.{in_use, line_of};
 
@@ -58,8 +57,8 @@ impl Line {
             .all(|(slot, code)| catalogue.tick(slot.holds, *code).is_some())
     }
 
-    // What the slots that have codes urge, and the internal event where two different slots hold opposite actions. A slot is held
-    // against those before it, so that the two actions of a port never meet within one slot.
+    // What the slots that have codes urge, and the internal event where two different slots hold opposite actions. A slot
+    // is held against those before it, so that the two actions of a port never meet within one slot.
     fn gathered<C: Catalogue>(&self, catalogue: &C, state: &[u32]) -> ActionSet
         ensures { (a : ℤ) → has result a ≡ gathers (C.Catalogue.meaning catalogue.now) (line_of self.now) state.now (min self.now.count (length state.now)) a }
     {

@@ -21,12 +21,12 @@ returns-in-Some-first_deep c =
     let full : length c.summarize-summaries.result ≡ 256 = search rules in
     by_all c.args.self.now.places.now c.args.part c.summarize-summaries.result c.args.self.now.few full c.summarize-summaries.ensures _ _ _ _ _ c.in_default.ensures c.in_default-first_without_action.ensures c.in_default-first_unguarded.ensures c.in-Some-first_deep.ensures refl
 
-pub returns-in-Some-first_rich : goal.returns-in-Some-first_rich
-returns-in-Some-first_rich c =
+pub returns-in-Some-first_with_many_moves : goal.returns-in-Some-first_with_many_moves
+returns-in-Some-first_with_many_moves c =
     let full : length c.summarize-summaries.result ≡ 256 = search rules in
-    by_all c.args.self.now.places.now c.args.part c.summarize-summaries.result c.args.self.now.few full c.summarize-summaries.ensures _ _ _ _ _ c.in_default.ensures c.in_default-first_without_action.ensures c.in_default-first_unguarded.ensures c.in_default-first_deep.ensures c.in-Some-first_rich.ensures
+    by_all c.args.self.now.places.now c.args.part c.summarize-summaries.result c.args.self.now.few full c.summarize-summaries.ensures _ _ _ _ _ c.in_default.ensures c.in_default-first_without_action.ensures c.in_default-first_unguarded.ensures c.in_default-first_deep.ensures c.in-Some-first_with_many_moves.ensures
 
 pub returns : goal.returns
 returns c =
     let full : length c.summarize-summaries.result ≡ 256 = search rules in
-    (by_all c.args.self.now.places.now c.args.part c.summarize-summaries.result c.args.self.now.few full c.summarize-summaries.ensures _ _ _ _ _ c.in_default.ensures c.in_default-first_without_action.ensures c.in_default-first_unguarded.ensures c.in_default-first_deep.ensures c.in_default-first_rich.ensures, c.summarize-summaries.ensures, full)
+    (by_all c.args.self.now.places.now c.args.part c.summarize-summaries.result c.args.self.now.few full c.summarize-summaries.ensures _ _ _ _ _ c.in_default.ensures c.in_default-first_without_action.ensures c.in_default-first_unguarded.ensures c.in_default-first_deep.ensures c.in_default-first_with_many_moves.ensures, c.summarize-summaries.ensures, full)
