@@ -1,9 +1,11 @@
 -- Laws of renamings: what becomes of an action, and which actions are in the image of a set. Nothing here asks for
 -- different ports to stay different. Assumes nothing.
-use Rattle.std.proofs.Common.{◌≡◌, ℕ, zero, suc, ◌+◌, ◌-◌, ◌<◌, ◌≤◌, Bool, true, false, not, ◌&&◌, ◌||◌, T, eqb, ◌≢◌, ◌⊎◌, ◌↔◌, List, [], ◌∷◌, length, get_or, set, ℤ, pos, negsuc, neg_ℤ, nat_abs, sym, refl, ap, ◌∙◌, subst, inl, inr, arith, eqb→eq, leb→le, T_not, w8, SFits, to_z, of_z}
+use Rattle.std.proofs.Common.{◌≡◌, ℕ, zero, suc, ◌+◌, ◌<◌, ◌≤◌, Bool, true, false, not, ◌&&◌, ◌||◌, T, eqb, ◌≢◌, ◌⊎◌, ◌↔◌, List, [], ◌∷◌, length, get_or, ℤ, pos, negsuc, neg_ℤ, nat_abs, sym, refl, ap, ◌∙◌, subst, inl, inr, arith, eqb→eq, leb→le, T_not, w8, SFits, to_z, of_z}
 use Rattle.std.proofs.lemmas.Int.{to_z-of_z}
-use Rattle.std.proofs.lemmas.List.{get_or_past, length-set, get_or-set_same, get_or-set_other, ext_get_or}
-use Rattle.std.proofs.lemmas.Bool.{cases_lt, cases_eq}
+use Rattle.std.proofs.lemmas.List.{get_or_past, ext_get_or}
+use Rattle.std.specs.Option.{unwrap_or}
+use Rattle.std.proofs.lemmas.Option.{unwrap_or-slice_get}
+use Rattle.std.proofs.lemmas.Bool.{cases_lt}
 use Rattle.action.specs.Lists.{all, any, kept}
 use Rattle.action.specs.Action.{internal, last_port, is_action, same}
 use Rattle.action.specs.declared.set.ActionSet.{ActionSet}
@@ -11,7 +13,7 @@ use Rattle.action.specs.Sets.{has, ◌∋◌, actions, no_actions, members}
 use Rattle.action.proofs.Basics.{and_l, and_r, and_i, any_some, some_any, T_true}
 use Rattle.action.proofs.Sets.{same_eq, same_refl, set_of_has, set_passes, passes_set, has_near, none_has, set_ext}
 use Rattle.action.proofs.Relations.{both_true, in_actions}
-use Rattle.renaming.specs.Renaming.{renamed, image, is_signal, full, kept_from, each_to_itself}
+use Rattle.renaming.specs.Renaming.{renamed, sent, image, is_signal, full, kept_from, each_to_itself}
 
 -- ── entries ──
 
@@ -36,15 +38,10 @@ entry_near f e n = go (cases_lt n last_port)
     go (inl l) = (full_signal f e n l).1
     go (inr l) = let past : nat_abs (get_or f n internal) ≡ 0 = ap nat_abs (get_or_past f n internal (omega (arith, full_length f e))) in omega arith
 
--- what a port is sent to, and a number that is none
-pub port_at : (f : List ℤ) (p : ℕ) → 1 ≤ p → get_or f (p - 1) internal ≡ renamed f (pos p)
-port_at f zero l = absurd (omega arith)
-port_at f (suc n) l = let p : suc n - 1 ≡ n = omega arith in ap (λ k. get_or f k internal) p
-
-pub port_none : (f : List ℤ) → full f ≡ true → (p : ℕ) → (p ≡ 0) ⊎ (last_port < p) → internal ≡ renamed f (pos p)
-port_none f e zero o = refl
-port_none f e (suc n) (inl z) = absurd (omega arith)
-port_none f e (suc n) (inr l) = sym (get_or_past f n internal (omega (arith, full_length f e)))
+-- what a port is sent to
+pub sent_or : (f : List ℤ) (n : ℕ) → unwrap_or (sent f n) internal ≡ renamed f (pos n)
+sent_or f zero = refl
+sent_or f (suc n) = unwrap_or-slice_get f n internal
 
 -- ── actions ──
 
@@ -91,20 +88,8 @@ kept_at zero k i l = absurd (omega arith)
 kept_at (suc n) k zero l = ap pos (omega arith)
 kept_at (suc n) k (suc i) l = kept_at n (suc k) i (omega arith) ∙ ap pos (omega arith)
 
--- the entries written so far send each port to itself
-pub record Written (f : List ℤ) (p : ℕ) : Type 0 where
-  pub long : length f ≡ last_port
-  pub each : (k : ℕ) → k + 1 < p → get_or f k internal ≡ pos (k + 1)
-
-pub written_more : (f : List ℤ) (p : ℕ) (z : ℤ) → 1 ≤ p → p ≤ last_port → z ≡ pos p → Written f p → Written (set f (p - 1) z) (p + 1)
-written_more f p z l u e w = record { long = length-set f (p - 1) z ∙ w.long; each = λ k h. at k h (cases_eq k (p - 1)) }
-  where
-    at : (k : ℕ) → k + 1 < p + 1 → (k ≡ p - 1) ⊎ (k ≡ p - 1 → ⊥) → get_or (set f (p - 1) z) k internal ≡ pos (k + 1)
-    at k h (inl q) = let there : p ≡ k + 1 = omega arith in ap (λ j. get_or (set f (p - 1) z) j internal) q ∙ get_or-set_same f (p - 1) z internal (omega (arith, w.long)) ∙ e ∙ ap pos there
-    at k h (inr q) = get_or-set_other f (p - 1) k z internal q ∙ w.each k (omega arith)
-
-pub written_all : (f : List ℤ) (p : ℕ) → last_port < p → Written f p → f ≡ each_to_itself
-written_all f p l w = ext_get_or internal f each_to_itself w.long (λ k h. (let q : k + 1 ≡ 1 + k = omega arith in w.each k (omega (arith, w.long)) ∙ ap pos q ∙ sym (kept_at last_port 1 k (omega (arith, w.long)))))
+pub itself_made : (f : List ℤ) → length f ≡ last_port → ((k : ℕ) → k < last_port → get_or f k internal ≡ pos (k + 1)) → f ≡ each_to_itself
+itself_made f l h = ext_get_or internal f each_to_itself l (λ k m. (let q : k + 1 ≡ 1 + k = omega arith in h k (omega (arith, l)) ∙ ap pos q ∙ sym (kept_at last_port 1 k (omega (arith, l)))))
 
 pub itself_full : full each_to_itself ≡ true
 itself_full = refl

@@ -1,6 +1,11 @@
 -- Which lists of entries are taken. Assumes nothing.
-use Rattle.std.proofs.Common.{◌≡◌, ℕ, zero, suc, ◌+◌, ◌-◌, ◌<◌, ◌≤◌, Bool, true, false, not, ◌&&◌, ◌||◌, T, ◌≢◌, ◌⊎◌, List, [], ◌∷◌, length, get_or, ℤ, nat_abs, Some, None, Option, sym, refl, ap, ◌∙◌, inl, inr, arith, le→leb}
+use Rattle.std.proofs.Common.{◌≡◌, ℕ, zero, suc, ◌+◌, ◌-◌, ◌<◌, ◌≤◌, Bool, true, false, not, ◌&&◌, ◌||◌, T, ◌≢◌, ◌⊎◌, List, [], ◌∷◌, length, take, drop, get_or, eqb, ℤ, nat_abs, Some, None, Option, sym, refl, ap, ◌∙◌, inl, inr, arith, le→leb, cond}
 use Rattle.std.proofs.lemmas.Bool.{eq-eqb, ne_eqb, cases_eq, cases_order, not-false, not_from_true, both_ways}
+use Rattle.std.specs.List.{list_any, position, position_from}
+use Rattle.std.specs.Option.{MatchOption}
+use Rattle.std.proofs.Math.Seq.{take-suc}
+use Rattle.std.proofs.lemmas.List.Folds.{list_any-append}
+use Rattle.std.proofs.lemmas.Iterator.Adapters.{position_from-zero}
 use Rattle.action.specs.Lists.{all, below}
 use Rattle.action.specs.Action.{internal, last_port, is_action, same}
 use Rattle.action.proofs.Basics.{and_i, or_r, le_split, T_true, true_T, T_either}
@@ -13,36 +18,17 @@ use Rattle.renaming.proofs.Laws.{signal_is}
 -- ── the least number that passes ──
 
 module _ (f : ℕ → Bool) where
-  pub least_found : (n k : ℕ) → k < n → f k ≡ true → least f (n - k) k ≡ Some k
-  least_found n k l e = go (n - k) (omega arith)
+  -- i is the first from k on that passes
+  pub first_passes : (n k i : ℕ) → k ≤ i → i < k + n → f i ≡ true → ((j : ℕ) → k ≤ j → j < i → f j ≡ false) → least f n k ≡ Some i
+  first_passes zero k i l u e h = absurd (omega arith)
+  first_passes (suc n) k i l u e h = go (f k) refl (le_split k i l) (first_passes n (suc k) i)
     where
-      found : (m : ℕ) (b : Bool) → b ≡ true → ◌≡◌ {A = Option ℕ} (elim b [ true ↦ Some k | false ↦ least f m (suc k) ]) (Some k)
-      found m true t = refl
-      found m false t = let z : ◌≡◌ {A = ℕ} 0 1 = cc in absurd (omega arith)
-
-      go : (m : ℕ) → 0 < m → least f m k ≡ Some k
-      go zero h = absurd (omega arith)
-      go (suc m) h = found m (f k) e
-
-  pub least_passed : (n k : ℕ) → k < n → f k ≡ false → least f (n - (k + 1)) (k + 1) ≡ least f (n - k) k
-  least_passed n k l e = go (n - k) (omega arith)
-    where
-      next : k + 1 ≡ suc k
-      next = omega arith
-
-      passed : (m : ℕ) (b : Bool) → b ≡ false → ◌≡◌ {A = Option ℕ} (least f m (suc k)) (elim b [ true ↦ Some k | false ↦ least f m (suc k) ])
-      passed m true t = let z : ◌≡◌ {A = ℕ} 0 1 = cc in absurd (omega arith)
-      passed m false t = refl
-
-      go : (m : ℕ) → m ≡ suc (n - (k + 1)) → least f (n - (k + 1)) (k + 1) ≡ least f m k
-      go zero h = absurd (omega arith)
-      go (suc m) h = let p : n - (k + 1) ≡ m = omega arith in ap (λ j. least f (n - (k + 1)) j) next ∙ ap (λ j. least f j (suc k)) p ∙ passed m (f k) e
-
-  pub least_end : (n k : ℕ) → n ≤ k → least f (n - k) k ≡ None
-  least_end n k l = let p : n - k ≡ 0 = omega arith in ap (λ m. least f m k) p
-
-  pub least_start : (n : ℕ) → least f (n - 0) 0 ≡ least f n 0
-  least_start n = let p : n - 0 ≡ n = omega arith in ap (λ m. least f m 0) p
+      go : (b : Bool) → f k ≡ b → (k ≡ i) ⊎ (suc k ≤ i) → (suc k ≤ i → i < suc k + n → f i ≡ true → ((j : ℕ) → suc k ≤ j → j < i → f j ≡ false) → least f n (suc k) ≡ Some i)
+          → ◌≡◌ {A = Option ℕ} (elim b [ true ↦ Some k | false ↦ least f n (suc k) ]) (Some i)
+      go true q (inl p) rec = ap Some p
+      go true q (inr m) rec = absurd (both_ways (f k) (h k (omega arith) m) q)
+      go false q (inl p) rec = absurd (both_ways (f k) q (ap f p ∙ e))
+      go false q (inr m) rec = rec m (omega arith) e (λ j a b. h j (omega arith) b)
 
   -- none passes
   none_passes : (n k : ℕ) → least f n k ≡ None → (j : ℕ) → k ≤ j → j < k + n → f j ≡ false
@@ -53,7 +39,7 @@ module _ (f : ℕ → Bool) where
       go true q z rec = let o : ◌≡◌ {A = ℕ} 0 1 = cc in absurd (omega arith)
       go false q z rec = elim (le_split k j l) [ inl p ↦ ap f (sym p) ∙ q | inr m ↦ rec z j m (omega arith) ]
 
-  passes_none : (n k : ℕ) → ((j : ℕ) → k ≤ j → j < k + n → f j ≡ false) → least f n k ≡ None
+  pub passes_none : (n k : ℕ) → ((j : ℕ) → k ≤ j → j < k + n → f j ≡ false) → least f n k ≡ None
   passes_none zero k h = refl
   passes_none (suc n) k h = go (f k) (h k (omega arith) (omega arith)) (passes_none n (suc k) (λ j l u. h j (omega arith) (omega arith)))
     where
@@ -70,12 +56,55 @@ module _ (f : ℕ → Bool) where
       go (inl p) rec = ap (λ b. b || below n f) (ap f (sym p) ∙ e)
       go (inr p) rec = true_T (f n || below n f) (or_r (f n) (below n f) (T_true (below n f) (rec (omega arith) e)))
 
-  pub below_more : (j : ℕ) → below j f ≡ false → f j ≡ false → below (j + 1) f ≡ false
-  below_more j h e = let p : j + 1 ≡ suc j = omega arith in ap (λ n. below n f) p ∙ ap (λ b. b || below j f) e ∙ h
-
   below_none : (n : ℕ) → ((j : ℕ) → j < n → f j ≡ false) → below n f ≡ false
   below_none zero h = refl
   below_none (suc n) h = ap (λ b. b || below n f) (h n (omega arith)) ∙ below_none n (λ j l. h j (omega arith))
+
+-- ── the same, as the code looks for it ──
+
+position_least : (g : ℕ → Bool) (p : ℤ → Bool) (xs : List ℤ) (k : ℕ) → ((i : ℕ) → i < length xs → p (get_or xs i internal) ≡ g (k + i)) → position_from p k xs ≡ least g (length xs) k
+position_least g p [] k h = refl
+position_least g p (x ∷ xs) k h =
+    let here : k + 0 ≡ k = omega arith in
+    let next : k + 1 ≡ suc k = omega arith in
+    ap (λ t. cond t (Some k) (position_from p (k + 1) xs)) (h 0 (omega arith) ∙ ap g here)
+    ∙ go (g k) (position_least g p xs (k + 1) (λ i l. (let q : k + suc i ≡ k + 1 + i = omega arith in h (suc i) (omega arith) ∙ ap g q)) ∙ ap (least g (length xs)) next)
+  where
+    go : (b : Bool) → position_from p (k + 1) xs ≡ least g (length xs) (suc k) → cond b (Some k) (position_from p (k + 1) xs) ≡ elim b [ true ↦ Some k | false ↦ least g (length xs) (suc k) ]
+    go true r = refl
+    go false r = r
+
+pub first_wrong_is : (f : List ℤ) → position (λ a. not (is_signal a)) f ≡ first_wrong f
+unfolding first_wrong
+first_wrong_is f = position_from-zero (λ a. not (is_signal a)) f ∙ position_least (wrong f) (λ a. not (is_signal a)) f 0 (λ i l. (let q : i ≡ 0 + i = omega arith in ap (wrong f) q))
+
+any_below : (p : ℤ → Bool) (f : List ℤ) (n : ℕ) → n ≤ length f → list_any p (take n f) ≡ below n (λ j. p (get_or f j internal))
+any_below p f zero l = refl
+any_below p f (suc n) l =
+    ap (list_any p) (take-suc f n internal (omega arith)) ∙ list_any-append p (take n f) (get_or f n internal ∷ []) ∙ swap (list_any p (take n f)) (p (get_or f n internal))
+    ∙ ap (λ t. p (get_or f n internal) || t) (any_below p f n (omega arith))
+  where
+    swap : (a b : Bool) → (a || (b || false)) ≡ (b || a)
+    swap true true = refl
+    swap true false = refl
+    swap false true = refl
+    swap false false = refl
+
+-- the entry at i has the port of one in the slice before it
+abbrev pub before : List ℤ → ℕ → Bool
+before f i = list_any (λ a. eqb (nat_abs (get_or f i internal)) (nat_abs a)) (take (i - 0) (drop 0 f))
+
+shared_is : (f : List ℤ) (i : ℕ) → i ≤ length f → before f i ≡ shared f i
+shared_is f i l =
+    let q : i - 0 ≡ i = omega arith in
+    let p = λ (a : ℤ). eqb (nat_abs (get_or f i internal)) (nat_abs a) in
+    ap (λ n. list_any p (take n f)) q ∙ any_below p f i l
+
+pub first_shared_is : (f : List ℤ) (o : Option ℕ) → MatchOption o ((k : ℕ) → 0 ≤ k → k < length f → false ≡ before f k) (λ i. (0 ≤ i) × (i < length f) × (true ≡ before f i) × ((k : ℕ) → 0 ≤ k → k < i → false ≡ before f k)) → o ≡ first_shared f
+unfolding first_shared
+first_shared_is f None h = sym (passes_none (shared f) (length f) 0 (λ j l u. sym (h j l (omega arith) ∙ shared_is f j (omega arith))))
+first_shared_is f (Some i) h =
+    sym (first_passes (shared f) (length f) 0 i h.0 (omega (arith, h.1)) (sym (h.2 ∙ shared_is f i (omega (arith, h.1)))) (λ j l u. sym (h.3 j l u ∙ shared_is f j (omega (arith, h.1)))))
 
 -- ── entries ──
 

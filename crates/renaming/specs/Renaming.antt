@@ -1,5 +1,5 @@
 -- Renamings: what each port is sent to, and what that makes of an action and of a set of actions. Assumes nothing.
-use Rattle.std.specs.Prelude.{ℕ, zero, suc, Bool, true, false, not, ◌&&◌, List, [], ◌∷◌, length, ℤ, pos, negsuc, neg_ℤ, Some, None, Option, ◌==◌, slice_index_or, unsigned_abs}
+use Rattle.std.specs.Prelude.{ℕ, zero, suc, Bool, true, false, not, ◌&&◌, List, [], ◌∷◌, length, ℤ, pos, negsuc, neg_ℤ, Some, None, Option, ◌==◌, slice_get, slice_index_or, unsigned_abs}
 use Rattle.action.specs.Lists.{all, any, below}
 use Rattle.action.specs.Action.{internal, last_port, is_action, same}
 use Rattle.action.specs.declared.set.ActionSet.{ActionSet}
@@ -10,6 +10,11 @@ abbrev pub renamed : List ℤ → ℤ → ℤ
 renamed f (pos zero) = internal
 renamed f (pos (suc n)) = slice_index_or f n internal
 renamed f (negsuc n) = neg_ℤ (slice_index_or f n internal)
+
+-- what the port with a number is sent to, if there is one
+abbrev pub sent : List ℤ → ℕ → Option ℤ
+sent f zero = None
+sent f (suc n) = slice_get f n
 
 -- the set of what the actions of a set become
 unfoldable pub image : List ℤ → ActionSet → ActionSet

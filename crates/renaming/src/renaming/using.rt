@@ -1,29 +1,27 @@
 // What a renaming makes of an action and of a set of actions.
-ghost use Rattle.std.specs.Prelude.{◌≡◌, ◌≤◌, ◌↔◌, ℤ, pos, unsigned_abs};
+ghost use Rattle.std.specs.Prelude.{◌≡◌, ◌≤◌, ◌↔◌, ℤ, unsigned_abs, IfSome};
 ghost use Rattle.action.specs.Action.{last_port};
 ghost use Rattle.action.specs.Sets.{◌∋◌};
-ghost use Rattle.renaming.specs.Renaming.{renamed, image};
+ghost use Rattle.renaming.specs.Renaming.{renamed, image, sent};
 
 use super::Renaming;
 use action::ActionSet;
 
-// What a port is sent to; a number that is no port becomes the internal event.
-fn sent(renaming: Renaming, port: u8) -> i8
-    ensures value { result ≡ renamed renaming.entries (pos port) }
-    ensures near { unsigned_abs result ≤ last_port }
-{
-    if port == 0 || port > 31 {
-        return 0;
-    }
-    renaming.entries[port as usize - 1]
-}
-
 impl Renaming {
+    // What a port is sent to, if the number is one.
+    fn sent(self, port: u8) -> Option<i8>
+        ensures value { result ≡ sent self.entries port }
+        ensures near { IfSome result (λ a. unsigned_abs a ≤ last_port) }
+    {
+        let place = usize::from(port).checked_sub(1)?;
+        self.entries.get(place).copied()
+    }
+
     // What an action becomes. A number that is no action becomes the internal event.
     pub fn apply(self, action: i8) -> i8
         ensures { result ≡ renamed self.entries action }
     {
-        let to = sent(self, action.unsigned_abs());
+        let to = self.sent(action.unsigned_abs()).unwrap_or(0);
         if action < 0 { -to } else { to }
     }
 

@@ -1,18 +1,10 @@
-use Rattle.std.proofs.Common.{length, sym, ◌∙◌}
-use Rattle.renaming.specs.Renaming.{shared, first_shared}
-use Rattle.renaming.proofs.Taking.{least_start, least_found, least_passed}
+use Rattle.std.proofs.Common.{◌≡◌, true, false, rules}
+use Rattle.std.proofs.lemmas.Iterator.{first_from_Range}
+use Rattle.renaming.proofs.Taking.{before, first_shared_is}
 use Rattle.renaming.proofs.renaming.making.first_shared.Goals as goal
 
-pub loop-i-init : goal.loop-i-init
-unfolding first_shared
-loop-i-init c = least_start (shared c.args.entries.now) (length c.args.entries.now)
-
-pub returns-then-is_shared : goal.returns-then-is_shared
-returns-then-is_shared c =
+pub returns : goal.returns
+returns c =
     let f = c.args.entries.now in
-    sym (least_found (shared f) (length f) c.loop-i.i c.loop-i-test.true (sym c.if-is_shared.ensures)) ∙ c.loop-i.invariant
-
-pub loop-i-preserved : goal.loop-i-preserved
-loop-i-preserved c =
-    let f = c.args.entries.now in
-    least_passed (shared f) (length f) c.loop-i.i c.loop-i-test.true (sym c.if-is_shared.ensures) ∙ c.loop-i.invariant
+    first_shared_is f c.find.result
+    (first_from_Range _ _ _ c.find.result (λ i. true ≡ before f i) (λ i. false ≡ before f i) c.find.ensures.ran (λ x q k. search rules) (λ x q k. (search rules, search rules)))
