@@ -1,5 +1,5 @@
 -- The loop that completes ops: what is left gives it.
-use Rattle.std.proofs.Common.{◌≡◌, ℕ, ◌+◌, ◌-◌, ◌<◌, ◌≤◌, List, [], ◌∷◌, ◌++◌, length, take, set, sym, refl, ap, ◌∙◌, arith}
+use Rattle.std.proofs.Common.{◌≡◌, ℕ, ◌+◌, ◌-◌, ◌<◌, ◌≤◌, List, [], ◌∷◌, ◌++◌, length, take, set, sym, ap, ◌∙◌, arith}
 use Rattle.std.proofs.lemmas.List.{take-set-le, length-set}
 use Rattle.rows.specs.declared.row.Place.{Place}
 use Rattle.book_text.specs.declared.parser.Open.{Open}
@@ -13,9 +13,6 @@ pub record Completing (os : List Open) (low first rows pending : ℕ) (P₀ : Li
   pub size : length P ≡ length P₀
   pub table : closed_rows os low (i - low) (rows_in first n P) ≡ closed_rows os low (pending - low) (rows_in first rows P₀)
   pub front : take first P ≡ take first P₀
-
-pub completing_none : (os : List Open) (low first rows pending : ℕ) (P : List Place) → Completing os low first rows pending P rows pending P
-completing_none os low first rows pending P = record { ops = omega arith; all = refl; size = refl; table = refl; front = refl }
 
 pub completing_more : (os : List Open) (low first rows pending : ℕ) (P₀ : List Place) (n i : ℕ) (P : List Place) (p : Place)
     → first + (rows + (pending - low)) ≤ length P₀ → low < i → p ≡ place_for (op_at os (i - 1)) (n - 1)
@@ -36,10 +33,3 @@ completing_more os low first rows pending P₀ n i P p room h e g =
           ∙ sym (closed_more os low i (rows_in first n P) h) ∙ g.table;
       front = take-set-le first P (first + n) p (omega arith) ∙ g.front;
     }
-
-pub completing_all : (os : List Open) (low first rows pending : ℕ) (P₀ : List Place) (n i : ℕ) (P : List Place) → i ≤ low
-    → Completing os low first rows pending P₀ n i P → (n ≡ rows + (pending - low)) × (rows_in first n P ≡ closed_rows os low (pending - low) (rows_in first rows P₀))
-completing_all os low first rows pending P₀ n i P h g =
-    let a = g.all in
-    let z : i - low ≡ 0 = omega arith in
-    (omega arith, ap (λ (k : ℕ). closed_rows os low k (rows_in first n P)) (sym z) ∙ g.table)

@@ -53,13 +53,6 @@ module _ (text : List ℕ) (d : Parser) (P : List Place) (M : List ModuleRow) (a
   unfolding view
   leave_lost h z g = stop_6 (length P) (length M) (view text d P M) leave refl (leave_allowed h z) refl refl refl g
 
-  pub row_left : is_at d.state Left ≡ true → d.done < length M
-  row_left h =
-      let e = known d.state Left h in
-      let t = told_at text at d P M st Left e in
-      let l = lent_at text at d P M st Left e in
-      omega arith
-
   -- the row of the module, and what the parser becomes
   abbrev pub row_of : ModuleRow
   row_of = record { first = d.first; places = d.rows; start = (get_or d.lefts.items 0 no_label).place }

@@ -1,6 +1,6 @@
 -- What is open, as ops and floors stand for it.
 use Rattle.std.proofs.Common.{◌≡◌, ℕ, zero, suc, ◌+◌, ◌-◌, ◌<◌, ◌≤◌, ◌≢◌, List, [], ◌∷◌, ◌++◌, length, get_or, take, set, sym, refl, ap, ◌∙◌, subst, arith}
-use Rattle.std.proofs.lemmas.List.{append-nil, get_or-set_same, get_or-set_other, get_or_past, set_past, length_push, length-take-le, get_or-take, get_or_push, get_or_append_left}
+use Rattle.std.proofs.lemmas.List.{append-nil, get_or-set_same, get_or-set_other, length_push, length-take-le, get_or-take, get_or_push, get_or_append_left}
 use Rattle.book_grammar.specs.Reading.{Open as Entry, around, parens}
 use Rattle.book_grammar.specs.Reading.Open.{paren}
 use Rattle.book_grammar.proofs.Overfull.{shape, ops}
@@ -49,9 +49,6 @@ opened_push os o floors (suc k) n t =
 -- an op is kept where there is room for it, and counts as a wait elsewhere
 pub op_kept : (os : List Open) (n : ℕ) (o : Open) → n < length os → op_at (set os n o) n ≡ o
 op_kept os n o h = get_or-set_same os n o Waiting h
-
-pub op_lost : (os : List Open) (n : ℕ) (o : Open) → length os ≤ n → op_at (set os n o) n ≡ Waiting
-op_lost os n o h = ap (λ (l : List Open). op_at l n) (set_past os n o h) ∙ get_or_past os n Waiting h
 
 -- only the floors of the parentheses that are open count
 tidy_alike : (floors floors' : List ℕ) (k n : ℕ) → ((j : ℕ) → j < k → get_or floors' j 0 ≡ get_or floors j 0) → Tidy floors k n → Tidy floors' k n

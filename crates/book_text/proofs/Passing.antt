@@ -3,7 +3,7 @@ use Rattle.std.proofs.Common.{◌≡◌, ℕ, ◌+◌, ◌<◌, ◌≤◌, true,
 use Rattle.rows.specs.declared.row.Place.{Place}
 use Rattle.rows.specs.declared.row.ModuleRow.{ModuleRow}
 use Rattle.book_words.specs.Words.{Kind}
-use Rattle.book_words.specs.Words.Kind.{begins, enter, equals, dot, bad, other}
+use Rattle.book_words.specs.Words.Kind.{begins, enter, equals, dot, bad}
 use Rattle.book_grammar.specs.Reading.{tried, moved}
 use Rattle.book_grammar.specs.Reading.Step.{stops}
 use Rattle.book_text.specs.declared.fault.BookFault.{BookFault}
@@ -104,6 +104,3 @@ module _ (text : List ℕ) (d : Parser) (P : List Place) (M : List ModuleRow) (a
   pub port_fails : is_at d.state Term ≡ true → tried (length P) (length M) (view text d P M) bad ≡ stops 3
   unfolding view
   port_fails h = stop_3 (length P) (length M) (view text d P M) bad refl h refl
-
-  pub other_no : tried (length P) (length M) (view text d P M) other ≡ stops 2
-  other_no = stop_2 (length P) (length M) (view text d P M) other refl refl

@@ -1,6 +1,6 @@
 -- Names that are led to the right sides of their equations, row by row.
 use Rattle.std.proofs.Common.{◌≡◌, ℕ, zero, suc, ◌+◌, ◌<◌, ◌≤◌, Bool, true, false, not, List, [], ◌∷◌, ◌++◌, map, length, get_or, take, drop, set, Some, None, is_some, Option, sym, refl, ap, ◌∙◌, arith}
-use Rattle.std.proofs.lemmas.List.{append-nil, append_assoc, length-set, take_more, take_more_set, drop-set-lt, drop-drop, get_or-drop, get_or-take, map_push, length-take-le, take_all}
+use Rattle.std.proofs.lemmas.List.{append_assoc, length-set, take_more, take_more_set, drop-set-lt, drop-drop, get_or-drop, get_or-take, map_push, length-take-le}
 use Rattle.std.proofs.lemmas.Bool.{or_from, or_parts, or_left, or_right}
 use Rattle.std.specs.List.{find}
 use Rattle.action.specs.Lists.{any}
@@ -15,7 +15,7 @@ use Rattle.book_text.specs.declared.parser.Span.{Span}
 use Rattle.book_text.specs.declared.parser.Label.{Label}
 use Rattle.book_text.specs.Parsers.{side_in, row_in, rows_view, rows_in}
 use Rattle.book_text.specs.Names.{is_named}
-use Rattle.book_text.specs.Settling.{settled_row, sides_of, rows_of, Settled}
+use Rattle.book_text.specs.Settling.{settled_row, sides_of, rows_of}
 use Rattle.book_text.proofs.Finding.{any_found, place_found}
 use Rattle.book_text.proofs.Naming.{lefts_in}
 use Rattle.book_text.proofs.Rowing.{nowhere, rows_push, length_rows}
@@ -91,11 +91,6 @@ module _ (text : List ℕ) (d : Parser) (P₀ : List Place) (few : d.rows ≤ 25
   abbrev R₀ : List Place
   R₀ = rows_in d.first d.rows P₀
 
-  pub settling_none : Settling text d P₀ P₀ 0
-  settling_none =
-      let z : d.first + 0 ≡ d.first = omega arith in
-      record { size = refl; done = ap (λ (k : ℕ). take k P₀) z ∙ sym (append-nil (take d.first P₀)); rest = refl; known = refl }
-
   -- the row at hand is as it was
   row_there : (P : List Place) (i : ℕ) → i < d.rows → Settling text d P₀ P i → get_or P (d.first + i) Nil ≡ get_or R₀ i Nil
   row_there P i h g =
@@ -145,12 +140,3 @@ module _ (text : List ℕ) (d : Parser) (P₀ : List Place) (few : d.rows ≤ 25
       ap (any (lost S)) (rows_split text N R₀ i Nil (omega arith) (omega arith))
       ∙ any_at (lost S) (rows_view text N (take i R₀)) (row_in text (get_or N i nowhere) (get_or R₀ i Nil)) (rows_view text (drop (suc i) N) (drop (suc i) R₀))
       (lost_tells S (row_in text (get_or N i nowhere) (get_or R₀ i Nil)) (e ∙ ap (λ (q : Place). settled_row S (row_in text (get_or N i nowhere) q)) r))
-
-  pub settling_all : (P : List Place) (i : ℕ) → i ≡ d.rows → Settling text d P₀ P i → Settled text d P₀ P
-  settling_all P i e g =
-      let n = length_rows P₀ d.first d.rows room in
-      let all : take i R₀ ≡ R₀ = take_all i R₀ (omega arith) in (
-        ap (λ (l : List Place). any (lost (sides_of text d)) (rows_view text d.names l)) (sym all) ∙ g.known,
-        ap (λ (k : ℕ). take (d.first + k) P) (sym e) ∙ g.done
-            ∙ ap (λ (l : List Place). take d.first P₀ ++ map (settled (sides_of text d)) (rows_view text d.names l)) all,
-      )

@@ -1,12 +1,11 @@
 -- How steps make a reading: what is left gives it.
-use Rattle.std.proofs.Common.{◌≡◌, ℕ, ◌+◌, ◌≤◌, Bool, true, false, List, [], length, take, IsErrAnd, Ok, Err, Result, sym, refl, ap, ◌∙◌, subst, arith}
+use Rattle.std.proofs.Common.{◌≡◌, ℕ, ◌+◌, ◌≤◌, Bool, true, false, List, [], length, take, IsErrAnd, Ok, Result, sym, refl, ap, ◌∙◌, subst, arith}
 use Rattle.rows.specs.declared.row.Place.{Place}
 use Rattle.rows.specs.declared.row.ModuleRow.{ModuleRow}
 use Rattle.book_words.specs.Words.{Kind, Word, words}
 use Rattle.book_words.specs.Shown.{kind_of, words_at, Cut}
 use Rattle.book_words.specs.declared.word.Found.{Found}
 use Rattle.book_grammar.specs.Reading.{Reading, Read, run, reading, tried}
-use Rattle.book_grammar.specs.Reading.{Step}
 use Rattle.book_grammar.specs.Reading.Read.{refused, taken}
 use Rattle.std.proofs.lemmas.Result.{err_from_is_err_and}
 use Rattle.book_text.specs.declared.fault.BookFault.{BookFault}
@@ -14,7 +13,7 @@ use Rattle.book_text.specs.declared.fault.BookFault.TheVariants.{NotAllowed}
 use Rattle.book_text.specs.declared.steps.reading.Used.{Used}
 use Rattle.book_text.specs.declared.parser.Parser.{Parser}
 use Rattle.book_text.specs.declared.parser.State.TheVariants.{Outside}
-use Rattle.book_text.specs.Faults.{number_of, Where, where_of}
+use Rattle.book_text.specs.Faults.{number_of, where_of}
 use Rattle.book_text.specs.Faults.Where.{offset_at}
 use Rattle.book_text.specs.Parsers.{view}
 use Rattle.book_text.specs.Changes.{is_at}
@@ -68,12 +67,6 @@ module _ (text : List ℕ) (P₀ : List Place) (M₀ : List ModuleRow) where
     modules_size = refl;
   }
 
-  -- what a step asks for
-  pub going_steady : (d : Parser) (P : List Place) (M : List ModuleRow) (from : ℕ) (f : Found) → Cut text from f → Going d P M from → Steady f.at d (length P) (length M)
-  going_steady d P M from f c g =
-      subst (λ (p : ℕ). Steady f.at d p (length M)) (sym g.places_size) (subst (λ (m : ℕ). Steady f.at d (length P₀) m) (sym g.modules_size)
-      (steady_later from f.at d (length P₀) (length M₀) c.behind g.steady))
-
   going_led : (d : Parser) (P : List Place) (M : List ModuleRow) (from : ℕ) (f : Found) → Cut text from f → Going d P M from
       → going_on (length P₀) (length M₀) (length text) f.at (words_at text f.end) (tried (length P₀) (length M₀) (view text d P M) (kind_of f.word))
       ≡ reading (length P₀) (length M₀) text
@@ -93,18 +86,6 @@ module _ (text : List ℕ) (P₀ : List Place) (M₀ : List ModuleRow) where
         places_size = sp ∙ g.places_size;
         modules_size = sm ∙ g.modules_size;
       }
-
-  pub going_refused : (d : Parser) (P : List Place) (M : List ModuleRow) (from : ℕ) (f : Found) (v' : Reading) (d' : Parser) (e : BookFault)
-      → Cut text from f → Going d P M from
-      → Leads (length P) (length M) (length text) (view text d P M) (kind_of f.word) f.at v' d' (Err e)
-      → judged_read (reading (length P₀) (length M₀) text) ≡ turned_away (number_of e) (where_of e)
-  going_refused d P M from f v' d' e c g h =
-      let h' : Leads (length P₀) (length M₀) (length text) (view text d P M) (kind_of f.word) f.at v' d' (Err e) =
-      subst (λ (p : ℕ). Leads p (length M₀) (length text) (view text d P M) (kind_of f.word) f.at v' d' (Err e)) g.places_size
-      (subst (λ (m : ℕ). Leads (length P) m (length text) (view text d P M) (kind_of f.word) f.at v' d' (Err e)) g.modules_size h) in
-      ap judged_read (sym (going_led d P M from f c g)
-      ∙ ap (λ (x : Step). going_on (length P₀) (length M₀) (length text) f.at (words_at text f.end) x) h'.0)
-      ∙ ap (λ (x : Where). turned_away (number_of e) x) (sym h'.1)
 
   -- at the end
   at_end : (d : Parser) (P : List Place) (M : List ModuleRow) (from : ℕ) (b : Bool) → words_at text from ≡ [] → Going d P M from → is_at d.state Outside ≡ b
