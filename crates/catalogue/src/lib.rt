@@ -24,9 +24,6 @@ pub trait Catalogue {
     // The list of modules that the catalogue means. Every answer is an equation with it.
     ghost meaning: { Self → List Module };
 
-    // The bounds and the laws, shown for every value.
-    ghost lawful: { (c : Self) → Lawful (meaning c) };
-
     // How many modules there are.
     fn modules(&self) -> usize
         ensures { result ≡ length (meaning self.now) };
@@ -50,4 +47,7 @@ pub trait Catalogue {
     // The code that a tick of time leads to.
     fn tick(&self, part: usize, code: u32) -> Option<u32>
         ensures { result ≡ (state_in (meaning self.now) part code).tick };
+
+    // The bounds and the laws of catalogues, which each of them keeps.
+    ghost lawful: { (c : Self) → Lawful (meaning c) };
 }

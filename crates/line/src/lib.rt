@@ -3,4 +3,4 @@
 
 mod lines;
 
-pub use lines::{Line, SlotPlan, draw};
+pub use lines::{Line, MOST_SLOTS, SlotPlan, draw};

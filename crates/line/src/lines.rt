@@ -13,7 +13,7 @@ mod timing;
 pub use drawing::{SlotPlan, draw};
 
 // The most slots of a line.
-const MOST_SLOTS: usize = 16;
+pub const MOST_SLOTS: usize = 16;
 
 // A module, by its number in the catalogue, and how it is wired to the line.
 #[derive(Clone, Copy)]

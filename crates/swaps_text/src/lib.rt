@@ -10,22 +10,14 @@ ghost use Rattle.swaps_text.specs.Text.{trial_line, slot_trials, trials, trial_r
 ghost use Rattle.swaps_text.specs.Trying.{Tried};
 
 use catalogue::Catalogue;
-use line::{Line, SlotPlan, draw};
+use line::{Line, MOST_SLOTS, SlotPlan, draw};
 use line_rules::SwapFault;
 use pair_table::PairRow;
+use renaming::Renaming;
 use std::alloc::{AllocError, Global};
-
-// The most slots of a line.
-const MOST_SLOTS: usize = 16;
 
 // The rows of the table that each swap is tried with.
 const TABLE_ROWS: usize = 4096;
-
-// Each port is sent to itself.
-const UNRENAMED: [i8; 31] = [
-    1, 2, 3, 4, 5, 6, 7, 8, 9, 10, 11, 12, 13, 14, 15, 16, 17, 18, 19, 20, 21, 22, 23, 24, 25, 26,
-    27, 28, 29, 30, 31,
-];
 
 // The line of a swap.
 fn add_trial(
@@ -109,7 +101,8 @@ fn first_plans<'a, C: Catalogue>(
 pub fn swaps_text<C: Catalogue>(heap: Global, catalogue: &C) -> Result<String, AllocError>
     ensures { IfOk result (λ s. string_bytes s ≡ swap_lines (C.Catalogue.meaning catalogue.now)) }
 {
-    let plans = first_plans(heap, catalogue, &UNRENAMED)?;
+    let unrenamed = Renaming::identity();
+    let plans = first_plans(heap, catalogue, unrenamed.entries())?;
     match draw(catalogue, &plans, &[]) {
         Ok(drawn) => trials_text(heap, catalogue, drawn),
         Err(fault) => format!(in heap; "draw {fault}\n"),

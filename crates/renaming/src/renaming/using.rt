@@ -17,6 +17,13 @@ impl Renaming {
         self.entries.get(place).copied()
     }
 
+    // What the ports 1, 2, .. are sent to.
+    pub fn entries(&self) -> &[i8]
+        ensures { result.now ≡ self.now.entries }
+    {
+        &self.entries
+    }
+
     // What an action becomes. A number that is no action becomes the internal event.
     pub fn apply(self, action: i8) -> i8
         ensures { result ≡ renamed self.entries action }

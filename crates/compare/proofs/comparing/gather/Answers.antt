@@ -12,6 +12,6 @@ loop-k-preserved g c = gather_more _ _ _ _ (omega arith) c.loop-k.invariant.1 c.
 
 pub returns : goal.returns
 returns g c =
-    let few = moves_few (g.C.Catalogue.meaning c.args.catalogue.now) (g.C.Catalogue.lawful c.args.catalogue.now) c.args.part c.args.code in
+    let few = moves_few (g.C.Catalogue.meaning c.args.catalogue.now) (g.met.C.Catalogue.lawful c.args.catalogue.now) c.args.part c.args.code in
     let s : length (state_in (g.C.Catalogue.meaning c.args.catalogue.now) c.args.part c.args.code).moves ≤ c.loop-k.k = omega arith in
     record { within = omega arith; moves = gather_all _ _ c.loop-k.k _ c.loop-k.invariant.1 (omega arith) s }

@@ -18,7 +18,7 @@ overflow_add-self g c =
     let w = c.args.self.now in
     let xs : List Move = (state_in (g.C.Catalogue.meaning w.catalogue.now) w.part w.code).moves in
     let h = nth_in xs w.number c.in_ok-step.step (sym c.in_ok-step.was ∙ c.move_at.ensures) in
-    omega (arith, h.0, moves_bound (g.C.Catalogue.meaning w.catalogue.now) w.part w.code (g.C.Catalogue.lawful w.catalogue.now))
+    omega (arith, h.0, moves_bound (g.C.Catalogue.meaning w.catalogue.now) w.part w.code (g.met.C.Catalogue.lawful w.catalogue.now))
 
 pub returns-clause-steps : goal.returns-clause-steps
 unfolding moves_to_come

@@ -90,5 +90,5 @@ returns g c =
     let is : ◌≡◌ {A = rules.Line} (record { slots = map slot_of (take (length ps) c.loop-i.held); hidden = c.in-Some.hidden }) (planned (plans ps) hidden) =
     ap {B = rules.Line} (λ (xs : List rules.Slot). record { slots = xs; hidden = c.in-Some.hidden }) held ∙ ap {B = rules.Line} (λ (s : ActionSet). record { slots = plans ps; hidden = s }) good.1
     in
-    let r = draws_so ms (g.C.Catalogue.lawful c.args.catalogue.now) (plans ps) hidden _ (by_slots ms (plans ps) hidden (omega arith) (omega arith) good.0 ∙ all.0) is in
+    let r = draws_so ms (g.met.C.Catalogue.lawful c.args.catalogue.now) (plans ps) hidden _ (by_slots ms (plans ps) hidden (omega arith) (omega arith) good.0 ∙ all.0) is in
     record { answer = r.answer; law = draws ms (plans ps) hidden; drawn = r.drawn; promise = r.promise; possible = can_be_met }
