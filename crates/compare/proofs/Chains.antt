@@ -1,9 +1,9 @@
 -- The index after a row is added. Assumes nothing.
-use Rattle.std.proofs.Common.{◌≡◌, ℕ, ◌+◌, ◌-◌, ◌<◌, ◌≤◌, List, length, get_or, set, replicate, sym, ap, ◌∙◌, subst, inl, inr, arith}
+use Rattle.std.proofs.Common.{◌≡◌, ℕ, ◌+◌, ◌-◌, ◌<◌, ◌≤◌, List, length, get_or, set, replicate, sym, refl, ap, ◌∙◌, subst, inl, inr, arith}
 use Rattle.std.proofs.lemmas.List.{get_or-replicate, get_or_past, length-replicate, get_or-set_same, get_or-set_other, length-set}
 use Rattle.std.proofs.lemmas.Bool.{cases_eq}
 use Rattle.pair_table.specs.declared.PairRow.{PairRow}
-use Rattle.compare.specs.declared.comparing.Index.{Index}
+use Rattle.compare.specs.declared.index.Index.{Index}
 use Rattle.pair_table.specs.Laws.{row}
 use Rattle.pair_table.specs.Pairs.{most_rows}
 use Rattle.compare.specs.Rows.{fresh, Absent}
@@ -18,11 +18,13 @@ last_none rows h link e =
     record { within = omega arith; hits = λ l. absurd (omega arith); skips = λ j a b _. omega arith }
 
 -- no row is in use yet
-pub indexed_none : (n : ℕ) (rows : List PairRow) → Indexed (record { heads = replicate n 0; next = replicate n 0 }) rows 0
-indexed_none n rows =
+pub indexed_none : (rows : List PairRow) → Indexed (record { heads = replicate most_rows 0; next = replicate most_rows 0 }) rows 0
+indexed_none rows =
     record {
-      heads = λ h _. last_none rows h _ (zeros n h);
+      heads = λ h _. last_none rows h _ (zeros most_rows h);
       nexts = λ i l. absurd (omega arith);
+      buckets = length-replicate {A = ℕ} most_rows 0;
+      links = length-replicate {A = ℕ} most_rows 0;
       within = omega arith;
       few = omega arith;
       apart = λ i j a b _ _. omega arith;
@@ -119,14 +121,22 @@ apart_more rows n p q l k h i j li lj en eo =
       ]
     ]
 
+bucket_low : (p q : ℕ) → bucket_of p q < most_rows
+unfolding bucket_of
+bucket_low p q = omega arith
+
 -- one more row in use
-pub indexed_more : (index : Index) (rows : List PairRow) (n p q h : ℕ) → Indexed index rows n → n < length rows → n < most_rows → Absent rows n p q
-    → h ≡ bucket_of p q → h < most_rows → length index.heads ≡ 32768 → length index.next ≡ 32768
-    → Indexed (record { heads = set index.heads h (n + 1); next = set index.next n (get_or index.heads h 0) }) (set rows n (fresh p q)) (n + 1)
-indexed_more index rows n p q h k l few gap e lh eh en =
+pub indexed_more : (index index' : Index) (rows : List PairRow) (n p q : ℕ) → Indexed index rows n → n < length rows → n < most_rows → Absent rows n p q
+    → index'.heads ≡ set index.heads (bucket_of p q) (n + 1) → index'.next ≡ set index.next n (get_or index.heads (bucket_of p q) 0)
+    → Indexed index' (set rows n (fresh p q)) (n + 1)
+indexed_more index index' rows n p q k l few gap heads nexts =
+    let h : ℕ = bucket_of p q in
+    let rows' : List PairRow = set rows n (fresh p q) in
     record {
-      heads = heads_more index rows n p q h k l e (omega arith);
-      nexts = nexts_more index rows n p q h k l e lh (omega arith);
+      heads = λ i li. subst (λ (xs : List ℕ). Last rows' i (n + 1) (get_or xs i 0)) (sym heads) (heads_more index rows n p q h k l refl (omega (arith, bucket_low p q, k.buckets)) i li);
+      nexts = λ i li. subst (λ (xs : List ℕ). Last rows' (row_bucket rows' i) i (get_or xs i 0)) (sym nexts) (nexts_more index rows n p q h k l refl (bucket_low p q) (omega (arith, k.links)) i li);
+      buckets = ap length heads ∙ length-set index.heads h (n + 1) ∙ k.buckets;
+      links = ap length nexts ∙ length-set index.next n (get_or index.heads h 0) ∙ k.links;
       within = omega (arith, length-set rows n (fresh p q));
       few = omega arith;
       apart = apart_more rows n p q l k.apart gap;

@@ -1,6 +1,6 @@
 pub mod Chains
 pub mod Rows
-pub mod Growing
-pub mod Ranking
+pub mod Growth
+pub mod Ranks
 pub mod Sweeping
 pub mod Whole

@@ -7,15 +7,17 @@ use Rattle.action.specs.Lists.{◌∈◌}
 use Rattle.catalogue.specs.declared.Move.{Move}
 use Rattle.catalogue.specs.Catalogue.{Module}
 use Rattle.pair_table.specs.declared.PairRow.{PairRow}
-use Rattle.pair_table.specs.Pairs.{Pair, pair}
+use Rattle.pair_table.specs.Pairs.{Pair, pair, most_rows}
 use Rattle.pair_table.specs.Rounds.{round, rank}
 use Rattle.pair_table.specs.Laws.{row}
-use Rattle.compare.specs.declared.comparing.Index.{Index}
+use Rattle.compare.specs.declared.index.Index.{Index}
+use Rattle.compare.specs.declared.modules.Side.{Side}
+use Rattle.compare.specs.declared.modules.Side.TheVariants.{New, Old}
 use Rattle.compare.specs.Rows.{pair_of, pairs_of}
 use Rattle.compare.specs.Indexed.{Indexed, Last, bucket_of, row_bucket}
-use Rattle.compare.specs.Growth.{Fresh}
-use Rattle.compare.specs.Ranks.{Lasts, Sooner, HoldsAll, GoneOne, TickHolds, TickGone, Steady, Fails, JudgedRow, total, missing, unranked, heavy, weight, Fair, Alike, Swept}
-use Rattle.compare.proofs.Ranking.{fails_sound, steady_ranked}
+use Rattle.compare.specs.Growth.{Unranked}
+use Rattle.compare.specs.Ranks.{Modest, Lasts, Sooner, HoldsAll, GoneOne, TickHolds, TickGone, Steady, Fails, JudgedRow, total, missing, unranked, heavy, weight, Fair, Alike, Swept}
+use Rattle.compare.proofs.Ranks.{fails_sound, steady_ranked}
 
 -- ── rows with the same pairs ──
 
@@ -43,6 +45,8 @@ indexed_alike index t u n a k =
     record {
       heads = λ b l. last_alike t u n b n _ a (k.heads b l);
       nexts = λ i l. subst (λ (b : ℕ). Last u b i (get_or index.next i 0)) (sym (bucket_alike t u n i a)) (last_alike t u n _ i _ a (k.nexts i l));
+      buckets = k.buckets;
+      links = k.links;
       within = omega (arith, k.within, long_alike t u n a);
       few = k.few;
       apart = λ i j li lj en eo. k.apart i j li lj (sym (new i) ∙ en ∙ new j) (sym (old i) ∙ eo ∙ old j);
@@ -128,8 +132,8 @@ lasts_next : (x r : ℕ) → Lasts x r → 0 < x → r ≤ x + 1
 lasts_next x r (inl e) p = absurd (omega arith)
 lasts_next x r (inr h) p = h.1
 
-gone_next : (t : List PairRow) (n : ℕ) (back : Bool) (mine others : List Move) (r : ℕ) → HoldsAll t n back mine others r → GoneOne t n back mine others r → Next t n r
-gone_next t n back mine others r h g = elim (h g.0 g.1.0) [
+gone_next : (t : List PairRow) (n : ℕ) (side : Side) (mine others : List Move) (r : ℕ) → HoldsAll t n side mine others r → GoneOne t n side mine others r → Next t n r
+gone_next t n side mine others r h g = elim (h g.0 g.1.0) [
   | inl e ↦ inl e
   | inr w ↦ (let d = g.1.1 w.0 w.1.0 in inr (w.0, (w.1.0.1.1.0, lasts_next _ r w.1.1 d.0, d.0)))
 ]
@@ -144,8 +148,8 @@ tick_next new old t n p q r h g = elim h [
 
 fails_next : (new old : Module) (t : List PairRow) (n p q r : ℕ) → Steady new old t n p q r → Fails new old t n p q r → Next t n r
 fails_next new old t n p q r s f = elim f [
-  | inl g ↦ gone_next t n false _ _ r s.forth g
-  | inr x ↦ elim x [ inl g ↦ gone_next t n true _ _ r s.back g | inr g ↦ tick_next new old t n p q r s.tick g ]
+  | inl g ↦ gone_next t n New _ _ r s.forth g
+  | inr x ↦ elim x [ inl g ↦ gone_next t n Old _ _ r s.back g | inr g ↦ tick_next new old t n p q r s.tick g ]
 ]
 
 bound_this : (t : List PairRow) (n x r u v : ℕ) → ((j : ℕ) → j < n → (row t j).rank + u ≤ n) → x + u ≤ n → Sooner r x → 0 < r → Next t n r → v + missing x ≡ u → r + v ≤ n
@@ -153,26 +157,26 @@ bound_this t n x r u v b bx (inr s) p k e = omega arith
 bound_this t n x r u v b bx (inl z) p (inl o) e = omega (arith, missing_none x z)
 bound_this t n x r u v b bx (inl z) p (inr k) e = omega (arith, missing_none x z, b k.0 k.1.0, k.1.1)
 
-module _ (new old : Module) (pairs : List Pair) (index : Index) (n : ℕ) where
-  sound_write : (t : List PairRow) (i r : ℕ) → i < n → 0 < r → Fails new old t n (row t i).new (row t i).old r → Fair new old pairs index t n
+module _ (new old : Module) (pairs : List Pair) (n : ℕ) where
+  sound_write : (t : List PairRow) (i r : ℕ) → i < n → 0 < r → Fails new old t n (row t i).new (row t i).old r → Fair new old pairs t n
       → (j : ℕ) → j < n → 0 < (row (with t i r) j).rank → pair_of (row (with t i r) j) ∈ round new old pairs (row (with t i r) j).rank → ⊥
   sound_write t i r l p f k j lj pos kept =
-      let w : n ≤ length t = k.indexed.within in
+      let w : n ≤ length t = k.within in
       let back : pair_of (row t j) ∈ round new old pairs (row (with t i r) j).rank =
       subst (λ (x : Pair). x ∈ round new old pairs (row (with t i r) j).rank) (pair_alike t (with t i r) n j (alike_write t n i r l)) kept in
       elim (cases_eq j i) [
         | inl e ↦ (let er : (row (with t i r) j).rank ≡ r = ap (λ (x : ℕ). (row (with t i r) x).rank) e ∙ rank_this t i r (omega arith) in
-            fails_sound new old pairs index t n k (row t i).new (row t i).old r p f
+            fails_sound new old pairs t n k (row t i).new (row t i).old r p f
             (subst (λ (x : ℕ). pair_of (row t x) ∈ round new old pairs r) e (subst (λ (x : ℕ). pair_of (row t j) ∈ round new old pairs x) er back)))
         | inr ne ↦ (let er : (row (with t i r) j).rank ≡ (row t j).rank = rank_that t i r j ne in
             k.sound j lj (subst (λ (x : ℕ). 0 < x) er pos) (subst (λ (x : ℕ). pair_of (row t j) ∈ round new old pairs x) er back))
       ]
 
   fair_write : (t : List PairRow) (i r : ℕ) → i < n → ((row t i).rank ≡ r → ⊥) → r < 2 ^ 32
-      → JudgedRow new old t n (row t i).new (row t i).old (row t i).rank r → Fair new old pairs index t n
-      → Fair new old pairs index (with t i r) n × (weight (with t i r) n < weight t n)
+      → JudgedRow new old t n (row t i).new (row t i).old (row t i).rank r → Fair new old pairs t n
+      → Fair new old pairs (with t i r) n × (weight (with t i r) n < weight t n)
   fair_write t i r l ne lr j k =
-      let w : n ≤ length t = k.indexed.within in
+      let w : n ≤ length t = k.within in
       let d = falls_by (row t i).rank r j.sooner (λ e. ne (sym e)) lr in
       let p : 0 < r = d.0 in
       let f : Fails new old t n (row t i).new (row t i).old r = (elim j.why [ inl e ↦ absurd (ne (sym e)) | inr g ↦ g.1 ]) in
@@ -180,7 +184,7 @@ module _ (new old : Module) (pairs : List Pair) (index : Index) (n : ℕ) where
       let this : r + unranked (with t i r) n ≤ n =
       bound_this t n (row t i).rank r (unranked t n) (unranked (with t i r) n) k.bounded (k.bounded i l) j.sooner p (fails_next new old t n _ _ r j.steady f) u in (
         record {
-          indexed = indexed_alike index t (with t i r) n (alike_write t n i r l) k.indexed;
+          within = omega (arith, w, long_alike t (with t i r) n (alike_write t n i r l));
           held = pairs_alike t (with t i r) n (alike_write t n i r l) ∙ k.held;
           sound = sound_write t i r l p f k;
           bounded = λ m lm. elim (cases_eq m i) [
@@ -193,19 +197,9 @@ module _ (new old : Module) (pairs : List Pair) (index : Index) (n : ℕ) where
 
   -- ── a sweep ──
 
-  pub swept_none : (t : List PairRow) → Fair new old pairs index t n → Swept new old pairs index t t n n false
-  swept_none t k =
-      record {
-        fair = k;
-        alike = alike_none t n;
-        lower = omega arith;
-        falls = λ e. absurd (let z : ◌≡◌ {A = ℕ} 0 1 = cc in omega arith);
-        same = λ _ j a b. absurd (omega arith);
-      }
-
   pub swept_pass : (t₀ t : List PairRow) (i r : ℕ) (fell : Bool) → 0 < i → r ≡ (row t (i - 1)).rank
       → JudgedRow new old t n (row t (i - 1)).new (row t (i - 1)).old (row t (i - 1)).rank r
-      → Swept new old pairs index t₀ t n i fell → Swept new old pairs index t₀ t n (i - 1) fell
+      → Swept new old pairs t₀ t n i fell → Swept new old pairs t₀ t n (i - 1) fell
   swept_pass t₀ t i r fell l e j s =
       let here : Steady new old t n (row t (i - 1)).new (row t (i - 1)).old (row t (i - 1)).rank = subst (λ (x : ℕ). Steady new old t n (row t (i - 1)).new (row t (i - 1)).old x) e j.steady in
       record {
@@ -221,8 +215,8 @@ module _ (new old : Module) (pairs : List Pair) (index : Index) (n : ℕ) where
 
   pub swept_write : (t₀ t : List PairRow) (i r : ℕ) (fell : Bool) → 0 < i → i ≤ n → (r ≡ (row t (i - 1)).rank → ⊥) → r < 2 ^ 32
       → JudgedRow new old t n (row t (i - 1)).new (row t (i - 1)).old (row t (i - 1)).rank r
-      → Swept new old pairs index t₀ t n i fell
-      → Swept new old pairs index t₀ (set t (i - 1) (record { new = (row t (i - 1)).new; old = (row t (i - 1)).old; rank = r })) n (i - 1) true
+      → Swept new old pairs t₀ t n i fell
+      → Swept new old pairs t₀ (set t (i - 1) (record { new = (row t (i - 1)).new; old = (row t (i - 1)).old; rank = r })) n (i - 1) true
   swept_write t₀ t i r fell l le ne lr j s =
       let w = fair_write t (i - 1) r (omega arith) (λ e. ne (sym e)) lr j s.fair in
       record {
@@ -233,10 +227,10 @@ module _ (new old : Module) (pairs : List Pair) (index : Index) (n : ℕ) where
         same = λ e. absurd (let z : ◌≡◌ {A = ℕ} 0 1 = cc in omega arith);
       }
 
-  pub settled : (all : List Pair) (t₀ t : List PairRow) (fell : Bool) → pairs ≡ all → fell ≡ false → Swept new old pairs index t₀ t n 0 fell
+  pub settled : (all : List Pair) (t₀ t : List PairRow) (fell : Bool) → pairs ≡ all → fell ≡ false → Swept new old pairs t₀ t n 0 fell
       → (i : ℕ) → i < n → (row t i).rank ≡ rank new old all (pair_of (row t i))
   settled all t₀ t fell h e s i l =
-      steady_ranked new old pairs index t n s.fair (λ j m. s.same e j (omega arith) m) i l ∙ ap (λ (ps : List Pair). rank new old ps (pair_of (row t i))) h
+      steady_ranked new old pairs t n s.fair (λ j m. s.same e j (omega arith) m) i l ∙ ap (λ (ps : List Pair). rank new old ps (pair_of (row t i))) h
 
 -- no rank is given before the first sweep
 missing_le : (b : Bool) → cond b 1 0 ≤ 1
@@ -247,11 +241,18 @@ unranked_le : (rows : List PairRow) (n : ℕ) → unranked rows n ≤ n
 unranked_le rows zero = omega arith
 unranked_le rows (suc k) = omega (arith, unranked_le rows k, missing_le (eqb (row rows k).rank 0))
 
-pub fair_start : (new old : Module) (index : Index) (t : List PairRow) (n : ℕ) → Fresh index t n → Fair new old (pairs_of n t) index t n
-fair_start new old index t n k =
+pub fair_start : (new old : Module) (t : List PairRow) (n : ℕ) → n ≤ length t → Unranked t n → Fair new old (pairs_of n t) t n
+fair_start new old t n w u =
     record {
-      indexed = k.indexed;
+      within = w;
       held = refl;
-      sound = λ i l pos _. omega (arith, k.unranked i l);
-      bounded = λ j l. omega (arith, k.unranked j l, unranked_le t n);
+      sound = λ i l pos _. omega (arith, u i l);
+      bounded = λ j l. omega (arith, u j l, unranked_le t n);
     }
+
+-- what a struct of rows keeps, where a rank is written
+pub fair_modest : (new old : Module) (pairs : List Pair) (t : List PairRow) (n : ℕ) → n ≤ most_rows → Fair new old pairs t n → Modest t n
+fair_modest new old pairs t n few k j l = omega (arith, k.bounded j l)
+
+pub indexed_write : (index : Index) (t : List PairRow) (n i r : ℕ) → i < n → Indexed index t n → Indexed index (with t i r) n
+indexed_write index t n i r l k = indexed_alike index t (with t i r) n (alike_write t n i r l) k

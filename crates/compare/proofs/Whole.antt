@@ -1,5 +1,5 @@
 -- From the explored and ranked rows to the answer and the table at exit. Assumes nothing.
-use Rattle.std.proofs.Common.{◌≡◌, ℕ, zero, suc, ◌<◌, ◌≤◌, Bool, true, false, ltb, List, [], ◌∷◌, map, length, get_or, take, drop, Some, None, Ok, Err, Result, sym, refl, ap, ◌∙◌, subst, arith, MatchResult}
+use Rattle.std.proofs.Common.{◌≡◌, ℕ, zero, suc, ◌<◌, ◌≤◌, Bool, true, false, ltb, List, [], ◌∷◌, map, length, get_or, take, drop, Some, None, Option, ok_or, Ok, Err, Result, sym, refl, ap, ◌∙◌, subst, arith, MatchResult}
 use Rattle.std.specs.Option.{option_map}
 use Rattle.std.proofs.lemmas.List.{take_at, length-map, length-take-le}
 use Rattle.std.proofs.lemmas.Bool.{lt-ltb, le-ltb, le-leb, lt-leb}
@@ -18,13 +18,14 @@ use Rattle.pair_table.proofs.Explored.{explored_begins}
 use Rattle.pair_table.proofs.Verdict.{judges, overflows}
 use Rattle.pair_table.proofs.Compose.{ordered}
 use Rattle.pair_table.proofs.Worked.{worked}
-use Rattle.compare.specs.declared.comparing.Index.{Index}
+use Rattle.compare.specs.declared.filled.Filled.{Filled}
 use Rattle.compare.specs.Rows.{pair_of, pairs_of}
-use Rattle.compare.specs.Growth.{Grew, Full}
-use Rattle.compare.specs.Ranks.{Alike}
+use Rattle.compare.specs.Growth.{Grew, Full, Unranked, pairs_in}
+use Rattle.compare.specs.Sides.{Sides}
+use Rattle.compare.specs.Ranks.{Alike, Fair}
 use Rattle.compare.proofs.Rows.{rows_laid, length_pairs, pair_at}
-use Rattle.compare.proofs.Growing.{grew_on, grew_is, full_on, full_back}
-use Rattle.compare.proofs.Sweeping.{pairs_alike, long_alike}
+use Rattle.compare.proofs.Growth.{grew_on, grew_is, full_on, full_back}
+use Rattle.compare.proofs.Sweeping.{pairs_alike, long_alike, fair_start}
 
 -- ── the modules ──
 
@@ -50,6 +51,25 @@ pub record Compares (ms : Catalogue) (new old : ℕ) (before after : List PairRo
   pub judges : MatchResult r (λ v. Judges (module_in ms new) (module_in ms old) v (take v.pairs after)) (λ e. Refuses ms new old (take (room (length before)) after) e)
   pub ordered : Ordered ms
   pub worked : Worked
+
+-- what the start of a module that is asked for tells
+pub start_there : (o : Option ℕ) (e : CompareFault) (p : ℕ) → Ok p ≡ ok_or o e → Some p ≡ o
+start_there None e p h = absurd (let z : ◌≡◌ {A = ℕ} 0 1 = cc in omega arith)
+start_there (Some x) e p h = cc
+
+pub start_missing : (o : Option ℕ) (e d : CompareFault) → Err d ≡ ok_or o e → (None ≡ o) × (d ≡ e)
+start_missing None e d h = (refl, cc)
+start_missing (Some x) e d h = absurd (let z : ◌≡◌ {A = ℕ} 0 1 = cc in omega arith)
+
+pub at_exit : (ms : Catalogue) (new old : ℕ) (t t' u u' : List PairRow) (r r' : Result Compared CompareFault) → t ≡ t' → u ≡ u' → r ≡ r'
+    → Compares ms new old t u r → Compares ms new old t' u' r'
+at_exit ms new old t t' u u' r r' et eu er k =
+    subst (λ (x : List PairRow). Compares ms new old x u' r') et
+    (subst (λ (y : List PairRow). Compares ms new old t y r') eu (subst (λ (z : Result Compared CompareFault). Compares ms new old t u z) er k))
+
+-- what is shown of the two modules as they are held
+pub of_sides : (P : Module → Module → Type 0) (s : Sides) (n o : Module) → s.new ≡ n → s.old ≡ o → P s.new s.old → P n o
+of_sides P s n o en eo k = subst (λ (x : Module). P x o) en (subst (λ (y : Module). P s.new y) eo k)
 
 module _ (ms : Catalogue) (new old : ℕ) (lawful : Lawful ms) where
   abbrev answer_by : Bool → Bool → Bool → Result Compared CompareFault
@@ -122,75 +142,85 @@ module _ (ms : Catalogue) (new old : ℕ) (lawful : Lawful ms) where
     old_in : ltb old (length ms) ≡ true
     old_in = lt-ltb old (length ms) (start_known ms old q eq).0
 
-    rows_are : (t t₁ : List PairRow) (index : Index) (first : ℕ) → Grew index t t₁ 0 first (added (pairs_of 0 t) (pair p q ∷ [])) → explored N O most_rows 0 (pairs_of first t₁) ≡ rows N O
+    begun : ◌≡◌ {A = List Pair} (pair p q ∷ []) (starts N O ∷ [])
+    begun = ap (λ (x : ℕ). pair x q ∷ []) (sym (start_known ms new p ep).1) ∙ ap (λ (y : ℕ). pair N.start y ∷ []) (sym (start_known ms old q eq).1)
+
+    -- the rows before the first pair is added, after that, and as they are explored
+    module _ (f g : Filled) (none : f.count ≡ 0) where
+      first_pair : added (pairs_in f) (pair p q ∷ []) ≡ starts N O ∷ []
+      first_pair = ap (λ (n : ℕ). added (pairs_of n f.rows.now) (pair p q ∷ [])) none ∙ begun
+
+      rows_are : Grew f g (added (pairs_in f) (pair p q ∷ [])) → explored N O most_rows 0 (pairs_in g) ≡ rows N O
+      unfolding rows
+      rows_are k = ap (explored N O most_rows 0) (k.rows ∙ first_pair)
+
+      pub refused : (e : CompareFault) → Full f g (rows N O) e → Compares ms new old f.rows.now g.rows.now (Err e)
+      unfolding pair_count
+      refused e k =
+          let t : List PairRow = f.rows.now in
+          let u : List PairRow = g.rows.now in
+          let bare : Unranked u (room (length t)) = k.unranked (λ j l. absurd (omega arith)) in
+          let over : suffices N O (length t) ≡ false = lt-leb (pair_count N O) (room (length t)) k.over in
+          let laid_out : u ≡ cut_short N O t = rows_laid (λ x. 0) (room (length t)) t u (take (room (length t)) (rows N O)) (omega (arith, k.long)) bare k.rows k.rest in
+          let shown : List PairRow = map (row_of (λ x. 0)) (take (room (length t)) (rows N O)) in
+          let size : length shown ≡ room (length t) = length-map (take (room (length t)) (rows N O)) (row_of (λ x. 0)) ∙ length-take-le (room (length t)) (rows N O) (omega (arith, k.over)) in
+          let front : take (room (length t)) u ≡ shown = ap (take (room (length t))) laid_out ∙ take_at shown (drop (length (take (room (length t)) (rows N O))) t) (room (length t)) size in
+          let why : Overflows N O (take (room (length t)) u) = subst (λ (rs : List PairRow). Overflows N O rs) (sym front) (overflows N O (λ x. 0) (room (length t)) k.over) in
+          record {
+            answer = ap Err k.why ∙ sym (answer_is (length t) true true false old_in new_in over);
+            table = laid_out ∙ sym (table_is t true true false old_in new_in over);
+            judges = subst (λ (x : CompareFault). Refuses ms new old (take (room (length t)) u) x) (sym k.why) ((start_known ms old q eq).0, (start_known ms new p ep).0, why);
+            ordered = ordered ms lawful;
+            worked = worked;
+          }
+
+      pub refused_first : (e : CompareFault) → Full f g (added (pairs_in f) (pair p q ∷ [])) e → Compares ms new old f.rows.now g.rows.now (Err e)
+      unfolding rows
+      refused_first e k =
+          refused e
+          (full_on f g (starts N O ∷ []) (rows N O) e (subst (λ (xs : List Pair). Full f g xs e) first_pair k) (explored_begins N O most_rows 0 (starts N O ∷ [])))
+
+      pub explored_rows : (h : Filled) → Grew f g (added (pairs_in f) (pair p q ∷ [])) → Grew g h (explored N O most_rows 0 (pairs_in g)) → Grew f h (rows N O)
+      explored_rows h k a = grew_on f g h _ (rows N O) k (grew_is g h _ (rows N O) a (rows_are k))
+
+    pub refused_later : (f g h : Filled) → f.count ≡ 0 → (e : CompareFault)
+        → Grew f g (added (pairs_in f) (pair p q ∷ [])) → Full g h (explored N O most_rows 0 (pairs_in g)) e → Compares ms new old f.rows.now h.rows.now (Err e)
+    refused_later f g h none e k u =
+        refused f h none e (full_back f g h (rows N O) _ e k (subst (λ (xs : List Pair). Full g h xs e) (rows_are f g none k) u))
+
+    -- the pairs of the first rows are there
+    pub fair_rows : (f g : Filled) → f.count ≡ 0 → Grew f g (rows N O) → Fair N O (pairs_in g) g.rows.now g.count
+    fair_rows f g none k = fair_start N O g.rows.now g.count g.indexed.within (k.unranked (λ j l. absurd (omega arith)))
+
+    pub some_row : (f g : Filled) → Grew f g (rows N O) → 1 ≤ g.count
     unfolding rows
-    rows_are t t₁ index first g =
-        ap (explored N O most_rows 0)
-        (g.rows ∙ ap (λ (x : ℕ). pair x q ∷ []) (sym (start_known ms new p ep).1) ∙ ap (λ (y : ℕ). pair N.start y ∷ []) (sym (start_known ms old q eq).1))
-
-    pub refused : (t u : List PairRow) (e : CompareFault) → length u ≡ length t → Full t u (rows N O) e → Compares ms new old t u (Err e)
-    unfolding pair_count
-    refused t u e long f =
-        let over : suffices N O (length t) ≡ false = lt-leb (pair_count N O) (room (length t)) f.over in
-        let laid_out : u ≡ cut_short N O t = rows_laid (λ x. 0) (room (length t)) t u (take (room (length t)) (rows N O)) (omega arith) f.unranked f.rows f.rest in
-        let shown : List PairRow = map (row_of (λ x. 0)) (take (room (length t)) (rows N O)) in
-        let size : length shown ≡ room (length t) = length-map (take (room (length t)) (rows N O)) (row_of (λ x. 0)) ∙ length-take-le (room (length t)) (rows N O) (omega (arith, f.over)) in
-        let front : take (room (length t)) u ≡ shown = ap (take (room (length t))) laid_out ∙ take_at shown (drop (length (take (room (length t)) (rows N O))) t) (room (length t)) size in
-        let why : Overflows N O (take (room (length t)) u) = subst (λ (rs : List PairRow). Overflows N O rs) (sym front) (overflows N O (λ x. 0) (room (length t)) f.over) in
-        record {
-          answer = ap Err f.why ∙ sym (answer_is (length t) true true false old_in new_in over);
-          table = laid_out ∙ sym (table_is t true true false old_in new_in over);
-          judges = subst (λ (x : CompareFault). Refuses ms new old (take (room (length t)) u) x) (sym f.why) ((start_known ms old q eq).0, (start_known ms new p ep).0, why);
-          ordered = ordered ms lawful;
-          worked = worked;
-        }
-
-    pub refused_first : (t u : List PairRow) (e : CompareFault) → length u ≡ length t → Full t u (added (pairs_of 0 t) (pair p q ∷ [])) e → Compares ms new old t u (Err e)
-    unfolding rows
-    refused_first t u e long f =
-        let begun : pair p q ∷ [] ≡ starts N O ∷ [] = ap (λ (x : ℕ). pair x q ∷ []) (sym (start_known ms new p ep).1) ∙ ap (λ (y : ℕ). pair N.start y ∷ []) (sym (start_known ms old q eq).1) in
-        refused t u e long
-        (full_on t u (starts N O ∷ []) (rows N O) e (subst (λ (xs : List Pair). Full t u xs e) begun f) (explored_begins N O most_rows 0 (starts N O ∷ [])))
-
-    pub refused_later : (index : Index) (t t₁ u : List PairRow) (first : ℕ) (e : CompareFault) → length t₁ ≡ length t → length u ≡ length t₁
-        → Grew index t t₁ 0 first (added (pairs_of 0 t) (pair p q ∷ [])) → Full t₁ u (explored N O most_rows 0 (pairs_of first t₁)) e → Compares ms new old t u (Err e)
-    refused_later index t t₁ u first e long long₁ g f =
-        refused t u e (long₁ ∙ long)
-        (full_back index t t₁ u (rows N O) _ 0 first e long g (subst (λ (xs : List Pair). Full t₁ u xs e) (rows_are t t₁ index first g) f))
-
-    pub explored_rows : (index index' : Index) (t t₁ t₂ : List PairRow) (first n : ℕ)
-        → Grew index t t₁ 0 first (added (pairs_of 0 t) (pair p q ∷ [])) → Grew index' t₁ t₂ first n (explored N O most_rows 0 (pairs_of first t₁))
-        → Grew index' t t₂ 0 n (rows N O)
-    explored_rows index index' t t₁ t₂ first n g h =
-        grew_on index index' t t₁ t₂ 0 first n _ (rows N O) g (grew_is index' t₁ t₂ first n _ (rows N O) h (rows_are t t₁ index first g))
-
-    pub some_row : (index : Index) (t t₂ : List PairRow) (n : ℕ) → Grew index t t₂ 0 n (rows N O) → 1 ≤ n
-    unfolding rows
-    some_row index t t₂ n g =
+    some_row f g k =
         let b = explored_begins N O most_rows 0 (starts N O ∷ []) in
-        omega (arith, ap length b.1, ap length g.rows, length_pairs n t₂ g.fresh.indexed.within)
+        omega (arith, ap length b.1, ap length k.rows, length_pairs g.count g.rows.now g.indexed.within)
 
-    first_row : (index : Index) (t t₂ t₃ : List PairRow) (n : ℕ) → Grew index t t₂ 0 n (rows N O) → Alike t₂ t₃ n → pair_of (row t₃ 0) ≡ starts N O
+    first_row : (f g : Filled) (t : List PairRow) → Grew f g (rows N O) → Alike g.rows.now t g.count → pair_of (row t 0) ≡ starts N O
     unfolding rows
-    first_row index t t₂ t₃ n g a =
+    first_row f g t k a =
         let b = explored_begins N O most_rows 0 (starts N O ∷ []) in
-        let w : n ≤ length t₃ = omega (arith, long_alike t₂ t₃ n a, g.fresh.indexed.within) in
-        sym (pair_at n t₃ 0 (some_row index t t₂ n g) w) ∙ ap (λ (xs : List Pair). get_or xs 0 (pair 0 0)) (pairs_alike t₂ t₃ n a ∙ g.rows ∙ b.1)
+        let w : g.count ≤ length t = omega (arith, long_alike g.rows.now t g.count a, g.indexed.within) in
+        sym (pair_at g.count t 0 (some_row f g k) w) ∙ ap (λ (xs : List Pair). get_or xs 0 (pair 0 0)) (pairs_alike g.rows.now t g.count a ∙ k.rows ∙ b.1)
 
-    pub accepted : (index : Index) (t t₂ t₃ : List PairRow) (n : ℕ) → length t₂ ≡ length t → Grew index t t₂ 0 n (rows N O) → Alike t₂ t₃ n
-        → ((i : ℕ) → i < n → (row t₃ i).rank ≡ rank N O (pairs_of n t₂) (pair_of (row t₃ i)))
-        → Compares ms new old t t₃ (Ok (record { pairs = n; rank = (row t₃ 0).rank }))
+    pub accepted : (f g : Filled) (t₃ : List PairRow) → Grew f g (rows N O) → Alike g.rows.now t₃ g.count
+        → ((i : ℕ) → i < g.count → (row t₃ i).rank ≡ rank N O (pairs_in g) (pair_of (row t₃ i)))
+        → Compares ms new old f.rows.now t₃ (Ok (record { pairs = g.count; rank = (row t₃ 0).rank }))
     unfolding pair_count first_rank
-    accepted index t t₂ t₃ n long g a ranked =
-        let long₂ : n ≤ length t₂ = g.fresh.indexed.within in
-        let long₃ : n ≤ length t₃ = omega (arith, long_alike t₂ t₃ n a) in
-        let count : length (rows N O) ≡ n = ap length (sym g.rows) ∙ length_pairs n t₂ long₂ in
-        let enough : suffices N O (length t) ≡ true = le-leb (pair_count N O) (room (length t)) (omega (arith, g.fresh.indexed.few)) in
-        let ranks : (i : ℕ) → i < n → (row t₃ i).rank ≡ rank N O (rows N O) (pair_of (row t₃ i)) = λ i l. ranked i l ∙ ap (λ (xs : List Pair). rank N O xs (pair_of (row t₃ i))) g.rows in
-        let top : (row t₃ 0).rank ≡ first_rank N O = ranks 0 (some_row index t t₂ n g) ∙ ap (rank N O (rows N O)) (first_row index t t₂ t₃ n g a) in
-        let out : t₃ ≡ filled N O t = rows_laid (rank N O (rows N O)) n t t₃ (rows N O) long₃ ranks (pairs_alike t₂ t₃ n a ∙ g.rows) (a.rest ∙ g.rest) in
+    accepted f g t₃ k a ranked =
+        let t : List PairRow = f.rows.now in
+        let n : ℕ = g.count in
+        let long₂ : n ≤ length g.rows.now = g.indexed.within in
+        let long₃ : n ≤ length t₃ = omega (arith, long_alike g.rows.now t₃ n a) in
+        let count : length (rows N O) ≡ n = ap length (sym k.rows) ∙ length_pairs n g.rows.now long₂ in
+        let enough : suffices N O (length t) ≡ true = le-leb (pair_count N O) (room (length t)) (omega (arith, g.indexed.few, k.long)) in
+        let ranks : (i : ℕ) → i < n → (row t₃ i).rank ≡ rank N O (rows N O) (pair_of (row t₃ i)) = λ i l. ranked i l ∙ ap (λ (xs : List Pair). rank N O xs (pair_of (row t₃ i))) k.rows in
+        let top : (row t₃ 0).rank ≡ first_rank N O = ranks 0 (some_row f g k) ∙ ap (rank N O (rows N O)) (first_row f g t₃ k a) in
+        let out : t₃ ≡ filled N O t = rows_laid (rank N O (rows N O)) n t t₃ (rows N O) long₃ ranks (pairs_alike g.rows.now t₃ n a ∙ k.rows) (a.rest ∙ k.rest) in
         let told : record { pairs = n; rank = (row t₃ 0).rank } ≡ verdict N O = same_verdict n (pair_count N O) (row t₃ 0).rank (first_rank N O) (sym count) top in
-        let few : pair_count N O ≤ most_rows = omega (arith, g.fresh.indexed.few) in
+        let few : pair_count N O ≤ most_rows = omega (arith, g.indexed.few) in
         let laid_rows : List PairRow = map (row_of (rank N O (rows N O))) (rows N O) in
         let front : take n t₃ ≡ laid_rows = ap (take n) out ∙ take_at laid_rows (drop (length (rows N O)) t) n (length-map (rows N O) (row_of (rank N O (rows N O))) ∙ count) in
         record {

@@ -1,13 +1,17 @@
 -- What an index of the first n rows holds. Assumes nothing.
-use Rattle.std.specs.Prelude.{◌≡◌, ℕ, ◌+◌, ◌-◌, ◌*◌, ◌%◌, ◌^◌, ◌<◌, ◌≤◌, List, length, ◌≢◌, slice_index}
+use Rattle.std.specs.Prelude.{◌≡◌, ℕ, ◌+◌, ◌-◌, ◌*◌, ◌%◌, ◌^◌, ◌<◌, ◌≤◌, List, length, ◌≢◌, Option, Some, None, cond, ◌==◌, slice_index}
 use Rattle.pair_table.specs.declared.PairRow.{PairRow}
 use Rattle.pair_table.specs.Pairs.{most_rows}
 use Rattle.pair_table.specs.Laws.{row}
-use Rattle.compare.specs.declared.comparing.Index.{Index}
+use Rattle.compare.specs.declared.index.Index.{Index}
 
 -- the bucket of a pair
 unfoldable pub bucket_of : ℕ → ℕ → ℕ
 bucket_of p q = ((p * 181) % 2 ^ 32 + q) % 2 ^ 32 % most_rows
+
+-- the row that a link leads to: a link is one more than the number of a row, or 0
+abbrev pub row_at : ℕ → Option ℕ
+row_at link = cond (link == 0) None (Some (link - 1))
 
 -- the bucket of row i
 abbrev pub row_bucket : List PairRow → ℕ → ℕ
@@ -27,6 +31,8 @@ Apart rows n = (i j : ℕ) → i < n → j < n → (row rows i).new ≡ (row row
 pub record Indexed (index : Index) (rows : List PairRow) (n : ℕ) : Type 0 where
   pub heads : (b : ℕ) → b < most_rows → Last rows b n (slice_index index.heads b)
   pub nexts : (i : ℕ) → i < n → Last rows (row_bucket rows i) i (slice_index index.next i)
+  pub buckets : length index.heads ≡ most_rows
+  pub links : length index.next ≡ most_rows
   pub within : n ≤ length rows
   pub few : n ≤ most_rows
   pub apart : Apart rows n

@@ -1,6 +1,6 @@
 -- Ranks on the way to those of the rounds: a rank in a row says that the round of that number does not keep the row, and is
 -- lowered until each row has what the ranks of the others ask. Assumes nothing.
-use Rattle.std.specs.Prelude.{◌≡◌, ℕ, zero, suc, ◌+◌, ◌^◌, ◌<◌, ◌≤◌, Bool, true, false, cond, T, ◌⊎◌, List, map, drop, Some, ◌==◌}
+use Rattle.std.specs.Prelude.{◌≡◌, ℕ, zero, suc, ◌+◌, ◌^◌, ◌<◌, ◌≤◌, Bool, true, false, cond, T, ◌⊎◌, List, length, map, drop, Some, ◌==◌}
 use Rattle.action.specs.Lists.{◌∈◌}
 use Rattle.action.specs.Sets.{within}
 use Rattle.catalogue.specs.declared.Move.{Move}
@@ -9,17 +9,18 @@ use Rattle.pair_table.specs.declared.PairRow.{PairRow}
 use Rattle.pair_table.specs.Pairs.{Pair}
 use Rattle.pair_table.specs.Rounds.{round}
 use Rattle.pair_table.specs.Laws.{row}
-use Rattle.compare.specs.declared.comparing.Index.{Index}
+use Rattle.compare.specs.declared.modules.Side.{Side}
+use Rattle.compare.specs.declared.modules.Side.TheVariants.{New, Old}
 use Rattle.compare.specs.Rows.{Is, pair_of, pairs_of}
-use Rattle.compare.specs.Indexed.{Indexed}
+use Rattle.compare.specs.Sides.{new_target, old_target}
 
--- Row j is the pair of the targets of two moves by the same action; `back` says that the first of them is the old state's.
-abbrev pub PartnerBy : List PairRow → ℕ → Bool → Move → Move → ℕ → Type 0
-PartnerBy rows n back a b j =
-    (j < n) × ((a.action ≡ b.action) × Is rows j (cond back b.target a.target) (cond back a.target b.target))
+-- Row j is the pair of the targets of two moves by the same action; `side` says of which state the first of them is.
+abbrev pub PartnerBy : List PairRow → ℕ → Side → Move → Move → ℕ → Type 0
+PartnerBy rows n side a b j =
+    (j < n) × ((a.action ≡ b.action) × Is rows j (new_target side a b) (old_target side a b))
 
-abbrev pub Partner : List PairRow → ℕ → Bool → Move → List Move → ℕ → Type 0
-Partner rows n back a others j = (b : Move) × ((b ∈ others) × PartnerBy rows n back a b j)
+abbrev pub Partner : List PairRow → ℕ → Side → Move → List Move → ℕ → Type 0
+Partner rows n side a others j = (b : Move) × ((b ∈ others) × PartnerBy rows n side a b j)
 
 -- one more fits each rank
 abbrev pub Modest : List PairRow → ℕ → Type 0
@@ -37,18 +38,18 @@ abbrev pub Sooner : ℕ → ℕ → Type 0
 Sooner r limit = (limit ≡ 0) ⊎ ((0 < r) × (r ≤ limit))
 
 -- some partner of the move is there until round r; each of them is dropped before round r
-abbrev pub Holds : List PairRow → ℕ → Bool → Move → List Move → ℕ → Type 0
-Holds rows n back a others r = (r ≡ 1) ⊎ ((j : ℕ) × (Partner rows n back a others j × Lasts (row rows j).rank r))
+abbrev pub Holds : List PairRow → ℕ → Side → Move → List Move → ℕ → Type 0
+Holds rows n side a others r = (r ≡ 1) ⊎ ((j : ℕ) × (Partner rows n side a others j × Lasts (row rows j).rank r))
 
-abbrev pub Gone : List PairRow → ℕ → Bool → Move → List Move → ℕ → Type 0
-Gone rows n back a others r = (j : ℕ) → Partner rows n back a others j → (0 < (row rows j).rank) × ((row rows j).rank < r)
+abbrev pub Gone : List PairRow → ℕ → Side → Move → List Move → ℕ → Type 0
+Gone rows n side a others r = (j : ℕ) → Partner rows n side a others j → (0 < (row rows j).rank) × ((row rows j).rank < r)
 
 -- the same of each, and of one, of the moves
-abbrev pub HoldsAll : List PairRow → ℕ → Bool → List Move → List Move → ℕ → Type 0
-HoldsAll rows n back mine others r = (a : Move) → a ∈ mine → Holds rows n back a others r
+abbrev pub HoldsAll : List PairRow → ℕ → Side → List Move → List Move → ℕ → Type 0
+HoldsAll rows n side mine others r = (a : Move) → a ∈ mine → Holds rows n side a others r
 
-abbrev pub GoneOne : List PairRow → ℕ → Bool → List Move → List Move → ℕ → Type 0
-GoneOne rows n back mine others r = (a : Move) × ((a ∈ mine) × Gone rows n back a others r)
+abbrev pub GoneOne : List PairRow → ℕ → Side → List Move → List Move → ℕ → Type 0
+GoneOne rows n side mine others r = (a : Move) × ((a ∈ mine) × Gone rows n side a others r)
 
 -- the tick clause holds until round r; it fails at round r
 abbrev pub TickHolds : Module → Module → List PairRow → ℕ → (p q r : ℕ) → Type 0
@@ -63,26 +64,26 @@ TickGone new old rows n p q r = (p' : ℕ) × (((state new p).tick ≡ Some p')
 
 -- what holds the pair p and q until round r
 pub record Steady (new old : Module) (rows : List PairRow) (n p q r : ℕ) : Type 0 where
-  pub forth : HoldsAll rows n false (state new p).moves (state old q).moves r
-  pub back : HoldsAll rows n true (state old q).moves (state new p).moves r
+  pub forth : HoldsAll rows n New (state new p).moves (state old q).moves r
+  pub back : HoldsAll rows n Old (state old q).moves (state new p).moves r
   pub tick : TickHolds new old rows n p q r
 
 -- why round r drops the pair p and q
 abbrev pub Fails : Module → Module → List PairRow → ℕ → (p q r : ℕ) → Type 0
 Fails new old rows n p q r =
-    GoneOne rows n false (state new p).moves (state old q).moves r
-    ⊎ (GoneOne rows n true (state old q).moves (state new p).moves r ⊎ TickGone new old rows n p q r)
+    GoneOne rows n New (state new p).moves (state old q).moves r
+    ⊎ (GoneOne rows n Old (state old q).moves (state new p).moves r ⊎ TickGone new old rows n p q r)
 
 -- the round at which a move loses its partners, if it comes before the limit, and else the limit
-pub record Judged (rows : List PairRow) (n : ℕ) (back : Bool) (a : Move) (others : List Move) (limit r : ℕ) : Type 0 where
-  pub holds : Holds rows n back a others r
-  pub why : (r ≡ limit) ⊎ ((0 < r) × Gone rows n back a others r)
+pub record Judged (rows : List PairRow) (n : ℕ) (side : Side) (a : Move) (others : List Move) (limit r : ℕ) : Type 0 where
+  pub holds : Holds rows n side a others r
+  pub why : (r ≡ limit) ⊎ ((0 < r) × Gone rows n side a others r)
   pub sooner : Sooner r limit
 
 -- the same of those moves that are done with
-pub record JudgedAll (rows : List PairRow) (n : ℕ) (back : Bool) (done mine others : List Move) (limit r : ℕ) : Type 0 where
-  pub holds : HoldsAll rows n back done others r
-  pub why : (r ≡ limit) ⊎ ((0 < r) × GoneOne rows n back mine others r)
+pub record JudgedAll (rows : List PairRow) (n : ℕ) (side : Side) (done mine others : List Move) (limit r : ℕ) : Type 0 where
+  pub holds : HoldsAll rows n side done others r
+  pub why : (r ≡ limit) ⊎ ((0 < r) × GoneOne rows n side mine others r)
   pub sooner : Sooner r limit
 
 -- the round at which the tick clause fails, if it comes before the limit, and else the limit
@@ -116,8 +117,8 @@ abbrev pub weight : List PairRow → ℕ → ℕ
 weight rows n = total (λ j. heavy (row rows j).rank) n
 
 -- Ranks that the rounds bear out: `pairs` are the pairs of the rows.
-pub record Fair (new old : Module) (pairs : List Pair) (index : Index) (rows : List PairRow) (n : ℕ) : Type 0 where
-  pub indexed : Indexed index rows n
+pub record Fair (new old : Module) (pairs : List Pair) (rows : List PairRow) (n : ℕ) : Type 0 where
+  pub within : n ≤ length rows
   pub held : pairs_of n rows ≡ pairs
   -- a rank that is given is no sooner than the round that drops the row
   pub sound : (i : ℕ) → i < n → 0 < (row rows i).rank → pair_of (row rows i) ∈ round new old pairs (row rows i).rank → ⊥
@@ -133,8 +134,8 @@ abbrev pub SteadyFrom : Module → Module → List PairRow → (n i : ℕ) → T
 SteadyFrom new old rows n i = (j : ℕ) → i ≤ j → j < n → Steady new old rows n (row rows j).new (row rows j).old (row rows j).rank
 
 -- a sweep from the last row down to row i; `fell` says that some rank fell
-pub record Swept (new old : Module) (pairs : List Pair) (index : Index) (before after : List PairRow) (n i : ℕ) (fell : Bool) : Type 0 where
-  pub fair : Fair new old pairs index after n
+pub record Swept (new old : Module) (pairs : List Pair) (before after : List PairRow) (n i : ℕ) (fell : Bool) : Type 0 where
+  pub fair : Fair new old pairs after n
   pub alike : Alike before after n
   pub lower : weight after n ≤ weight before n
   pub falls : fell ≡ true → weight after n < weight before n

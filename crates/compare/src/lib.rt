@@ -2,5 +2,12 @@
 #![tactic(auto)]
 
 mod comparing;
+mod filled;
+mod growing;
+mod index;
+mod modules;
+mod moves;
+mod ranking;
+mod settling;
 
 pub use comparing::compare;

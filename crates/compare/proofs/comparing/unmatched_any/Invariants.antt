@@ -1,6 +1,0 @@
-use Rattle.std.proofs.Common.{take}
-use Rattle.compare.specs.Ranks.{JudgedAll}
-use Rattle.compare.proofs.comparing.unmatched_any.Given as goal
-
-abbrev pub invariant-loop-a : goal.invariant-loop-a
-invariant-loop-a l = JudgedAll l.table l.count l.back (take l.a-index l.mine) l.mine l.others l.limit l.first

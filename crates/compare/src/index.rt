@@ -1,0 +1,77 @@
+// Where the rows stand, by the pairs that they hold.
+ghost use Rattle.std.specs.Prelude.{◌≡◌, ℕ, ◌+◌, ◌<◌, ◌≤◌, List, MatchOption, slice_index, slice_set};
+ghost use Rattle.pair_table.specs.declared.PairRow.{PairRow};
+ghost use Rattle.pair_table.specs.Pairs.{most_rows};
+ghost use Rattle.compare.specs.Rows.{Is, Absent};
+ghost use Rattle.compare.specs.Indexed.{Indexed, bucket_of, row_at};
+
+use pair_table::PairRow;
+
+// The most rows of a table that are filled.
+pub(crate) const MOST_ROWS: usize = 32768;
+
+// For each bucket the last row in it, and for each row the last one before it in the same bucket, each as one more than the
+// row's number, 0 where there is none. So a walk along a bucket falls, and ends. Links of type `Option<u16>` take twice the memory:
+// an index was made in 7 us in place of 3, and two modules of a few states are compared in 6.
+#[derive(Drop)]
+pub(crate) struct Index {
+    pub(crate) heads: [u16; MOST_ROWS],
+    pub(crate) next: [u16; MOST_ROWS],
+}
+
+// The bucket of a pair: old states that are neighbours lie in neighbouring buckets.
+fn bucket(new: u32, old: u32) -> usize
+    ensures is { result ≡ bucket_of new old }
+    ensures bound { result < most_rows }
+{
+    new.wrapping_mul(181).wrapping_add(old) as usize % MOST_ROWS
+}
+
+// The row that a link leads to.
+fn linked(link: u16) -> Option<usize>
+    ensures { result ≡ row_at link }
+{
+    if link == 0 {
+        None
+    } else {
+        Some(link as usize - 1)
+    }
+}
+
+impl Index {
+    // The index of no rows.
+    pub(crate) fn empty() -> Index
+        ensures { (rows : List PairRow) → Indexed result rows 0 }
+    {
+        Index {
+            heads: [0; MOST_ROWS],
+            next: [0; MOST_ROWS],
+        }
+    }
+
+    // The row that holds a pair, among the first `count`.
+    pub(crate) fn find(&self, rows: &[PairRow], count: usize, new: u32, old: u32) -> Option<usize>
+        requires { Indexed self.now rows.now count }
+        ensures { MatchOption result (Absent rows.now count new old) (λ i. (i < count) × Is rows.now i new old) }
+    {
+        let mut link = self.heads[bucket(new, old)];
+        while let Some(row) = linked(link) {
+            if rows[row].new == new && rows[row].old == old {
+                return Some(row);
+            }
+            link = self.next[row];
+        }
+        None
+    }
+
+    // Links a row that holds a pair as the last in its bucket.
+    pub(crate) fn link(&mut self, row: usize, new: u32, old: u32)
+        requires { row < most_rows }
+        ensures heads { self.new.heads ≡ slice_set self.old.heads (bucket_of new old) (row + 1) }
+        ensures next { self.new.next ≡ slice_set self.old.next row (slice_index self.old.heads (bucket_of new old)) }
+    {
+        let head = bucket(new, old);
+        self.next[row] = self.heads[head];
+        self.heads[head] = (row + 1) as u16;
+    }
+}

@@ -1,0 +1,105 @@
+// What the ranks of the rows ask of the rank of one row.
+ghost use Rattle.std.specs.Prelude.{◌≡◌, ℕ, ◌<◌, MatchBool, MatchOption};
+ghost use Rattle.pair_table.specs.Laws.{row};
+ghost use Rattle.compare.specs.declared.modules.Side.{Side};
+ghost use Rattle.compare.specs.Rows.{Is, Absent};
+ghost use Rattle.compare.specs.Ranks.{Judged, JudgedAll, JudgedRow, JudgedTick, Lasts, Leaves, PartnerBy};
+
+use crate::filled::Filled;
+use crate::modules::{Modules, Side};
+use crate::moves::PairMoves;
+use catalogue::{Catalogue, Move};
+use pair_table::PairRow;
+
+// Whether a partner of rank `rank` is there until the round `limit`. 0 stands for no round, as in the rows that are lent and printed.
+fn outlasts(rank: u32, limit: u32) -> bool
+    ensures { MatchBool result (Lasts rank limit) (Leaves rank limit) }
+{
+    rank == 0 || (limit > 0 && limit - 1 <= rank)
+}
+
+impl<'a> Filled<'a> {
+    // The rank of the row that holds a pair.
+    fn rank_of(&self, new: u32, old: u32) -> Option<u32>
+        ensures { MatchOption result (Absent self.now.rows.now self.now.count new old) (λ x. (j : ℕ) × ((j < self.now.count) × (Is self.now.rows.now j new old × ((row self.now.rows.now j).rank ≡ x)))) }
+    {
+        let at = self.find(new, old)?;
+        Some(self.rows[at].rank)
+    }
+
+    // The rank of the pair of a move of one side with a move of the other, where they are by the same action.
+    fn partner_rank(&self, side: Side, a: Move, b: Move) -> Option<u32>
+        ensures { MatchOption result ((j : ℕ) → PartnerBy self.now.rows.now self.now.count side a b j → ⊥) (λ x. (j : ℕ) × (PartnerBy self.now.rows.now self.now.count side a b j × ((row self.now.rows.now j).rank ≡ x))) }
+    {
+        if a.action != b.action {
+            return None;
+        }
+        match side {
+            Side::New => self.rank_of(a.target, b.target),
+            Side::Old => self.rank_of(b.target, a.target),
+        }
+    }
+
+    // The round at which a move has lost its partners, if it comes before `limit`; else `limit`.
+    fn unmatched(&self, side: Side, a: Move, others: &[Move], limit: u32) -> u32
+        ensures { Judged self.now.rows.now self.now.count side a others.now limit result }
+    {
+        let mut last = 0;
+        for b in others {
+            if let Some(rank) = self.partner_rank(side, a, *b) {
+                if outlasts(rank, limit) {
+                    return limit;
+                }
+                last = rank.max(last);
+            }
+        }
+        last + 1
+    }
+
+    // The first such round over the moves of a state.
+    fn unmatched_any(&self, side: Side, mine: &[Move], others: &[Move], limit: u32) -> u32
+        ensures { JudgedAll self.now.rows.now self.now.count side mine.now mine.now others.now limit result }
+    {
+        let mut first = limit;
+        for a in mine {
+            first = self.unmatched(side, *a, others, first);
+        }
+        first
+    }
+
+    // The round at which the tick clause fails, if it comes before `limit`; else `limit`.
+    fn tick_unmatched<C: Catalogue>(&self, modules: &Modules<C>, held: PairRow, limit: u32) -> u32
+        ensures { JudgedTick modules.now.new modules.now.old self.now.rows.now self.now.count held.new held.old limit result }
+    {
+        let Some(p) = modules.tick(Side::New, held.new) else {
+            return limit;
+        };
+        let Some(q) = modules.tick(Side::Old, held.old) else {
+            return 1;
+        };
+        let asked = modules.urgent(Side::Old, held.old);
+        if !asked.is_subset(modules.urgent(Side::New, held.new)) {
+            return 1;
+        }
+        let Some(rank) = self.rank_of(p, q) else {
+            return 1;
+        };
+        if outlasts(rank, limit) {
+            limit
+        } else {
+            rank + 1
+        }
+    }
+
+    // The round that drops a row, as the ranks of the others have it, if it comes before its own rank; else its rank.
+    pub(crate) fn drop_round<C: Catalogue>(&self, modules: &Modules<C>, moves: &mut PairMoves, held: PairRow) -> u32
+        ensures { JudgedRow modules.now.new modules.now.old self.now.rows.now self.now.count held.new held.old held.rank result }
+    {
+        let tick = self.tick_unmatched(modules, held, held.rank);
+        modules.moves(held, moves);
+        let news = moves.news.as_slice();
+        let olds = moves.olds.as_slice();
+        let forth = self.unmatched_any(Side::New, news, olds, tick);
+        self.unmatched_any(Side::Old, olds, news, forth)
+    }
+}
