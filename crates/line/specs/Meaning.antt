@@ -17,11 +17,12 @@ abbrev pub slot_of : Slot → rules.Slot
 slot_of x = wired_so x.holds x.renaming.entries
 
 -- the first slots are in use
+abbrev pub line_of : Line → rules.Line
+line_of l = record { slots = map slot_of (take l.count l.slots); hidden = l.hidden }
+
+-- .. as they are held
 abbrev pub in_use : Line → List Slot
 in_use l = take l.count l.slots
-
-abbrev pub line_of : Line → rules.Line
-line_of l = record { slots = map slot_of (in_use l); hidden = l.hidden }
 
 abbrev pub plan_of : SlotPlan → rules.Slot
 plan_of p = wired_so p.holds p.entries.now
