@@ -60,6 +60,7 @@ module _ (text : List ℕ) (d : Parser) (P : List Place) (M : List ModuleRow) (a
   abbrev pub left_behind : Parser
   left_behind = record {
     state = Outside;
+    at = d.at;
     stack = d.stack;
     first = d.first + d.rows;
     rows = 0;
@@ -132,6 +133,7 @@ module _ (text : List ℕ) (d : Parser) (P : List Place) (M : List ModuleRow) (a
   abbrev pub left_with : ℕ → List Label → Parser
   left_with first ls = record {
     state = Outside;
+    at = d.at;
     stack = d.stack;
     first = first;
     rows = 0;

@@ -92,6 +92,7 @@ module _ (text : List ℕ) (d : Parser) (P : List Place) (M : List ModuleRow) (a
   abbrev pub titled_in : List Label → Parser
   titled_in ts = record {
     state = Brace;
+    at = d.at;
     stack = d.stack;
     first = d.first;
     rows = d.rows;
@@ -168,6 +169,7 @@ module _ (text : List ℕ) (d : Parser) (P : List Place) (M : List ModuleRow) (a
   abbrev pub left_in : List Label → Parser
   left_in ls = record {
     state = Equal;
+    at = d.at;
     stack = d.stack;
     first = d.first;
     rows = d.rows;

@@ -35,6 +35,7 @@ use Rattle.book_text.proofs.Viewing.{known, places_long, rows_long, front_long, 
 abbrev pub with_names : List Span → Parser → Parser
 with_names names d = record {
   state = d.state;
+  at = d.at;
   stack = d.stack;
   first = d.first;
   rows = d.rows;
@@ -317,6 +318,7 @@ module _ (text : List ℕ) (d : Parser) (P : List Place) (M : List ModuleRow) (a
   abbrev pub sided_in : List Label → Parser
   sided_in ls = record {
     state = Left;
+    at = d.at;
     stack = d.stack;
     first = d.first;
     rows = d.rows;
@@ -417,6 +419,7 @@ module _ (text : List ℕ) (d : Parser) (P : List Place) (M : List ModuleRow) (a
 abbrev pub with_rows : ℕ → Parser → Parser
 with_rows rows d = record {
   state = d.state;
+  at = d.at;
   stack = d.stack;
   first = d.first;
   rows = rows;

@@ -26,6 +26,20 @@ pub at_kind : (p m end : ℕ) (v : Reading) (k k' : Kind) (at : ℕ) (v' : Readi
     → Leads p m end v k at v' d' r → Leads p m end v k' at v' d' r
 at_kind p m end v k k' at v' d' r e h = subst (λ (x : Kind). Leads p m end v x at v' d' r) (sym e) h
 
+-- a parser at another word
+abbrev pub at_word : ℕ → Parser → Parser
+at_word n d = record {
+  state = d.state;
+  at = n;
+  stack = d.stack;
+  first = d.first;
+  rows = d.rows;
+  names = d.names;
+  lefts = d.lefts;
+  titles = d.titles;
+  done = d.done;
+}
+
 -- what is steady stays so at a later offset
 pub steady_later : (n n' : ℕ) (d : Parser) (p m : ℕ) → n ≤ n' → Steady n d p m → Steady n' d p m
 steady_later n n' d p m h st =
@@ -38,6 +52,27 @@ steady_later n n' d p m h st =
         ops_kept = s.ops_kept;
         names_kept = s.names_kept;
         short = omega arith;
+        nested = s.nested;
+        tidy = s.tidy;
+        poised = s.poised;
+        few_rows = s.few_rows;
+        few_equations = s.few_equations;
+        few_modules = s.few_modules;
+        told = s.told;
+      };
+    }
+
+-- and at any word
+pub steady_word : (n k : ℕ) (d : Parser) (p m : ℕ) → Steady n d p m → Steady n (at_word k d) p m
+steady_word n k d p m st =
+    let s = st.sound in
+    record {
+      room = st.room;
+      lent = st.lent;
+      sound = record {
+        ops_kept = s.ops_kept;
+        names_kept = s.names_kept;
+        short = s.short;
         nested = s.nested;
         tidy = s.tidy;
         poised = s.poised;

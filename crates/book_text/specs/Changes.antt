@@ -21,6 +21,7 @@ is_at q r = state_number (state_of_stage q) == state_number (state_of_stage r)
 abbrev pub with_stack : State → Stack → Parser → Parser
 with_stack q s d = record {
   state = q;
+  at = d.at;
   stack = s;
   first = d.first;
   rows = d.rows;
@@ -60,6 +61,7 @@ closed s = with_floors (take (length s.floors.items - 1) s.floors.items) s
 abbrev pub behind_term : Parser → Stack → ℕ → Parser
 behind_term d s rows = record {
   state = After;
+  at = d.at;
   stack = s;
   first = d.first;
   rows = rows;

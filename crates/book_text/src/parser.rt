@@ -65,6 +65,8 @@ pub struct Stack {
 #[derive(Default, Drop)]
 pub struct Parser {
     pub state: State,
+    // where the word at hand stands in the text
+    pub at: usize,
     pub stack: Stack,
     pub first: usize,
     pub rows: u16,

@@ -35,27 +35,27 @@ impl Parser {
         requires spells { Spells (take (found.end - found.at) (drop found.at text.now)) found.word }
         ensures { Leads (length places.old) (length modules.old) (length text.now) (view text.now self.old places.old modules.old) (kind_of found.entry.word) found.entry.at (view text.now self.new places.new modules.new) self.new result }
     {
-        let at = found.at;
+        self.at = found.at;
         match found.word {
-            Word::Alien => Err(BookFault::Word(WordFault::Alien(at))),
-            Word::Other => Err(BookFault::NotAllowed(at)),
-            Word::Bad => self.on_bad(at),
-            Word::Module => self.on_module(modules.len(), at),
-            Word::Name(x) => self.on_name(text, places, x, at),
-            Word::Enter => self.go_on(State::Brace, State::Left, at),
-            Word::Leave => self.on_leave(text, places, modules, at),
-            Word::Equals => self.go_on(State::Equal, State::Term, at),
-            Word::Dot => self.go_on(State::Point, State::Term, at),
-            Word::Nil => self.on_nil(places, at),
-            Word::Wait => self.open(State::Term, Open::Waiting, State::Point, at),
-            Word::Act(a) => self.open(State::Term, Open::Acting(a), State::Point, at),
+            Word::Alien => Err(BookFault::Word(WordFault::Alien(self.at))),
+            Word::Other => Err(BookFault::NotAllowed(self.at)),
+            Word::Bad => self.on_bad(),
+            Word::Module => self.on_module(modules.len()),
+            Word::Name(x) => self.on_name(text, places, x),
+            Word::Enter => self.go_on(State::Brace, State::Left),
+            Word::Leave => self.on_leave(text, places, modules),
+            Word::Equals => self.go_on(State::Equal, State::Term),
+            Word::Dot => self.go_on(State::Point, State::Term),
+            Word::Nil => self.on_nil(places),
+            Word::Wait => self.open(State::Term, Open::Waiting, State::Point),
+            Word::Act(a) => self.open(State::Term, Open::Acting(a), State::Point),
             Word::Plus => {
                 let sum = Open::Adding(self.rows.saturating_sub(1));
-                self.open(State::After, sum, State::Term, at)
+                self.open(State::After, sum, State::Term)
             }
-            Word::Opens => self.on_opens(at),
-            Word::Closes => self.on_closes(places, at),
-            Word::Ends => self.on_ends(at),
+            Word::Opens => self.on_opens(),
+            Word::Closes => self.on_closes(places),
+            Word::Ends => self.on_ends(),
         }
     }
 }
@@ -72,7 +72,8 @@ fn read_words(
     for found in Words::of(text) {
         parser.step(text, found, places, modules)?;
     }
-    parser.expect(State::Outside, text.len())?;
+    parser.at = text.len();
+    parser.expect(State::Outside)?;
     Ok(Used {
         places: parser.first,
         modules: parser.done,

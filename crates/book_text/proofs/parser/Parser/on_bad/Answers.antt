@@ -6,7 +6,7 @@ use Rattle.book_text.proofs.parser.Parser.on_bad.Goals as goal
 
 pub returns-in_err-expect : goal.returns-in_err-expect
 returns-in_err-expect c = λ text P M st.
-    not_here text c.args.self.now P M bad c.args.at _ _ c.from_residual.ensures.1 (bad_no text c.args.self.now P M c.args.at st c.in_err-expect.ensures.0) c.in_err-expect.ensures.1
+    not_here text c.args.self.now P M bad c.args.self.now.at _ _ c.from_residual.ensures.1 (bad_no text c.args.self.now P M c.args.self.now.at st c.in_err-expect.ensures.0) c.in_err-expect.ensures.1
 
 pub returns : goal.returns
-returns c = λ text P M st. (port_fails text c.args.self.now P M c.args.at st c.in_ok-expect.ensures, refl)
+returns c = λ text P M st. (port_fails text c.args.self.now P M c.args.self.now.at st c.in_ok-expect.ensures, refl)

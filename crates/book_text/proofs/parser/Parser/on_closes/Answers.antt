@@ -10,7 +10,7 @@ use Rattle.book_text.proofs.parser.Parser.on_closes.Goals as goal
 
 pub returns-in_err-expect : goal.returns-in_err-expect
 returns-in_err-expect c = λ text M st.
-    not_here text c.args.self.now c.args.places.now M closes c.args.at _ _ c.from_residual.ensures.1 (closes_no text c.args.self.now c.args.places.now M c.args.at st c.in_err-expect.ensures.0) c.in_err-expect.ensures.1
+    not_here text c.args.self.now c.args.places.now M closes c.args.self.now.at _ _ c.from_residual.ensures.1 (closes_no text c.args.self.now c.args.places.now M c.args.self.now.at st c.in_err-expect.ensures.0) c.in_err-expect.ensures.1
 
 pub returns-in_default : goal.returns-in_default
 returns-in_default c = λ text M st.
@@ -18,12 +18,12 @@ returns-in_default c = λ text M st.
       | inl h ↦ absurd (false≢true (c.in_default.ensures.variant.1 h))
       | inr h ↦ omega arith
     ] in
-    (closes_none text c.args.self.now c.args.places.now M c.args.at st c.in_ok-expect.ensures none, refl)
+    (closes_none text c.args.self.now c.args.places.now M c.args.self.now.at st c.in_ok-expect.ensures none, refl)
 
 pub returns : goal.returns
 returns c = λ text M st.
     let d = c.args.self.now in
-    closes_does text d c.args.places.now M c.args.at st c.finish.new.self c.finish.new.places c.finish.result
+    closes_does text d c.args.places.now M c.args.self.now.at st c.finish.new.self c.finish.new.places c.finish.result
     c.in_ok-expect.ensures (c.in-Some.ensures.variant.0 refl)
-    (subst (λ (fs : List ℕ). Finishes (with_stack d.state (with_floors fs d.stack) d) (with_floors fs d.stack) c.args.places.now (rows_in d.first d.rows c.args.places.now) c.args.at
+    (subst (λ (fs : List ℕ). Finishes (with_stack d.state (with_floors fs d.stack) d) (with_floors fs d.stack) c.args.places.now (rows_in d.first d.rows c.args.places.now) c.args.self.now.at
     c.finish.new.self c.finish.new.places (d.rows + waiting_on (with_floors fs d.stack)) c.finish.result) c.in-Some.ensures.rest c.finish.ensures)

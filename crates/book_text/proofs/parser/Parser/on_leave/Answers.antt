@@ -10,29 +10,29 @@ use Rattle.book_text.proofs.parser.Parser.on_leave.Goals as goal
 
 pub returns-in_err-expect : goal.returns-in_err-expect
 returns-in_err-expect c =
-    not_here c.args.text.now c.args.self.now c.args.places.now c.args.modules.now leave c.args.at _ _ c.from_residual.ensures.1
-    (leave_no c.args.text.now c.args.self.now c.args.places.now c.args.modules.now c.args.at c.requires c.in_err-expect.ensures.0) c.in_err-expect.ensures.1
+    not_here c.args.text.now c.args.self.now c.args.places.now c.args.modules.now leave c.args.self.now.at _ _ c.from_residual.ensures.1
+    (leave_no c.args.text.now c.args.self.now c.args.places.now c.args.modules.now c.args.self.now.at c.requires c.in_err-expect.ensures.0) c.in_err-expect.ensures.1
 
 pub returns-in_default : goal.returns-in_default
 returns-in_default c =
     let none : length c.args.self.now.lefts.items ≡ 0 = omega (arith, ap length c.deref.ensures.0, c.in_default.ensures.item.3) in
-    (leave_empty c.args.text.now c.args.self.now c.args.places.now c.args.modules.now c.args.at c.requires c.in_ok-expect.ensures none, refl)
+    (leave_empty c.args.text.now c.args.self.now c.args.places.now c.args.modules.now c.args.self.now.at c.requires c.in_ok-expect.ensures none, refl)
 
 pub returns-in_err-settle : goal.returns-in_err-settle
 returns-in_err-settle c =
     let d = c.args.self.now in
     let some : 0 < length d.lefts.items = omega (arith, ap length c.deref.ensures.0, c.in-Some.ensures.item.3.0) in
-    refuses (length c.args.places.now) (length c.args.modules.now) (length c.args.text.now) (view c.args.text.now d c.args.places.now c.args.modules.now) leave c.args.at
+    refuses (length c.args.places.now) (length c.args.modules.now) (length c.args.text.now) (view c.args.text.now d c.args.places.now c.args.modules.now) leave c.args.self.now.at
     (view c.args.text.now d c.settle.new.places c.args.modules.now) d _ c.from_residual-in_err-settle.result c.from_residual-in_err-settle.ensures.1
-    (lacks (length c.args.places.now) (length c.args.modules.now) (view c.args.text.now d c.args.places.now c.args.modules.now) leave c.args.at _
-    (leave_lost c.args.text.now d c.args.places.now c.args.modules.now c.args.at c.requires c.in_ok-expect.ensures some c.in_err-settle.ensures.0) c.in_err-settle.ensures.1)
+    (lacks (length c.args.places.now) (length c.args.modules.now) (view c.args.text.now d c.args.places.now c.args.modules.now) leave c.args.self.now.at _
+    (leave_lost c.args.text.now d c.args.places.now c.args.modules.now c.args.self.now.at c.requires c.in_ok-expect.ensures some c.in_err-settle.ensures.0) c.in_err-settle.ensures.1)
 
 pub returns : goal.returns
 returns c =
     let d = c.args.self.now in
     let some : 0 < length d.lefts.items = omega (arith, ap length c.deref.ensures.0, c.in-Some.ensures.item.3.0) in
     let start = c.from-start.ensures ∙ ap (λ (l : Label). l.place) (c.in-Some.ensures.item.3.1 no_label) ∙ ap (λ (ls : List Label). (get_or ls 0 no_label).place) c.deref.ensures.0 in
-    leave_does c.args.text.now d c.args.places.now c.args.modules.now c.args.at c.requires c.settle.new.places _ c.clear.new.self.items _
+    leave_does c.args.text.now d c.args.places.now c.args.modules.now c.args.self.now.at c.requires c.settle.new.places _ c.clear.new.self.items _
     c.settle.auto.places c.in_ok-expect.ensures some c.in_ok-settle.ensures (ap (λ (n : ℕ). d.first + n) c.from-2.ensures) c.clear.ensures
     (ap {B = ModuleRow} (λ (n : ℕ). record { first = d.first; places = n; start = c.from-start.result }) c.from.ensures
     ∙ ap {B = ModuleRow} (λ (n : ℕ). record { first = d.first; places = d.rows; start = n }) start)
