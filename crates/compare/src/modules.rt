@@ -34,7 +34,11 @@ impl<'a, C: Catalogue> Modules<'a, C> {
         ensures new { result.new ≡ module_in (C.Catalogue.meaning catalogue.now) new }
         ensures old { result.old ≡ module_in (C.Catalogue.meaning catalogue.now) old }
     {
-        Modules { catalogue, new, old }
+        Modules {
+            catalogue,
+            new,
+            old,
+        }
     }
 
     // Reads the moves of the two states of a pair. With the two lists as a result, the comparison of modules with one move a state
