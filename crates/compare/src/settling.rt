@@ -35,7 +35,7 @@ impl<'a> Filled<'a> {
         fell
     }
 
-    // Sweeps until no rank falls.
+    // Sweeps until no rank falls. Part of `compare`, so that the fields of the rows stay in registers.
     #[inline]
     pub(crate) fn settle<C: Catalogue>(&mut self, modules: &Modules<C>, moves: &mut PairMoves)
         requires { Fair modules.now.new modules.now.old (pairs_in self.old) self.old.rows.now self.old.count }
