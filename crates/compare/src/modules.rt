@@ -10,12 +10,14 @@ use catalogue::Catalogue;
 use pair_table::PairRow;
 use std::marker::Model;
 
+// Of which module a state or a move is.
 #[derive(Clone, Copy)]
 pub(crate) enum Side {
     New,
     Old,
 }
 
+// A new module and an old one of a catalogue, by their numbers.
 #[derive(Drop)]
 pub(crate) struct Modules<'a, C: Catalogue> {
     catalogue: &'a C,

@@ -18,7 +18,6 @@ impl<'a> Filled<'a> {
     fn sweep<C: Catalogue>(&mut self, modules: &Modules<C>, moves: &mut PairMoves) -> bool
         requires { Fair modules.now.new modules.now.old (pairs_in self.old) self.old.rows.now self.old.count }
         ensures same_reference { self.new.rows.ghost_name ≡ self.old.rows.ghost_name }
-        ensures same_index { self.new.index.now ≡ self.old.index.now }
         ensures same_count { self.new.count ≡ self.old.count }
         ensures swept { Swept modules.now.new modules.now.old (pairs_in self.old) self.old.rows.now self.new.rows.now self.old.count 0 result }
     {
