@@ -1,15 +1,14 @@
 -- Adding pairs to the rows, one step after another. Assumes nothing.
-use Rattle.std.proofs.Common.{◌≡◌, ℕ, zero, suc, ◌+◌, ◌-◌, ◌<◌, ◌≤◌, Bool, true, false, eqb, ◌⊎◌, List, [], ◌∷◌, ◌++◌, length, get_or, take, drop, set, ℤ, Some, None, Option, is_some, MatchOption, Ok, Err, Result, sym, refl, ap, ◌∙◌, subst, inl, inr, arith, w8, SFits, to_z, of_z}
+use Rattle.std.proofs.Common.{◌≡◌, ℕ, zero, suc, ◌+◌, ◌-◌, ◌<◌, ◌≤◌, Bool, true, false, List, [], ◌∷◌, ◌++◌, length, get_or, take, drop, set, ℤ, Some, None, Option, is_some, MatchOption, Ok, Err, Result, sym, refl, ap, ◌∙◌, subst, inl, inr, arith}
 use Rattle.std.specs.Bool.{⊤}
-use Rattle.std.proofs.lemmas.Int.{to_z-of_z}
-use Rattle.std.proofs.lemmas.List.{append_assoc, length-take-le, take_more_set, take_more, take_all, drop-set-lt, drop-drop, length-set, at_drop_more, at_drop_all, get_or-set_same, get_or-set_other, length-append, take-append-le, get_or_past}
-use Rattle.std.proofs.lemmas.Bool.{cases_eq, cases_Bool, cases_lt, lt-ltb, le-ltb, ne_eqb, eq-eqb}
-use Rattle.action.specs.Lists.{nth, each}
+use Rattle.std.proofs.lemmas.List.{append_assoc, length-take-le, take_more_set, take_all, drop-set-lt, drop-drop, length-set, at_drop_more, get_or-set_same, get_or-set_other, length-append, take-append-le}
+use Rattle.std.proofs.lemmas.Bool.{cases_eq, cases_Bool, lt-ltb, le-ltb}
+use Rattle.action.specs.Lists.{each}
 use Rattle.action.specs.Action.{same}
 use Rattle.action.proofs.Basics.{T_true, true_T}
 use Rattle.action.proofs.Sets.{same_eq, eq_same}
 use Rattle.catalogue.specs.declared.Move.{Move}
-use Rattle.catalogue.specs.Catalogue.{Module, Lawful, absent as no_module, state, state_in, module_in, most_moves}
+use Rattle.catalogue.specs.Catalogue.{Module, state, most_moves}
 use Rattle.pair_table.specs.declared.PairRow.{PairRow}
 use Rattle.pair_table.specs.declared.CompareFault.{CompareFault}
 use Rattle.pair_table.specs.declared.CompareFault.TheVariants.{TableTooSmall}

@@ -1,12 +1,9 @@
 -- Ranks that each row holds to are those of the rounds, and the round that drops a row is found move by move. Assumes nothing.
-use Rattle.std.proofs.Common.{◌≡◌, ℕ, zero, suc, ◌+◌, ◌^◌, ◌<◌, ◌≤◌, max, Bool, true, false, cond, T, ◌⊎◌, List, [], ◌∷◌, length, get_or, take, ℤ, w8, SFits, to_z, of_z, Some, None, Option, sym, refl, ap, ◌∙◌, subst, inl, inr, arith, MatchOption}
-use Rattle.std.proofs.lemmas.Int.{to_z-of_z}
-use Rattle.std.proofs.lemmas.List.{take_more, take_all}
-use Rattle.std.proofs.lemmas.Bool.{cases_eq, cases_lt, both_ways}
+use Rattle.std.proofs.Common.{◌≡◌, ℕ, zero, suc, ◌+◌, ◌^◌, ◌<◌, ◌≤◌, max, T, ◌⊎◌, List, [], ◌∷◌, length, get_or, take, sym, refl, ap, ◌∙◌, subst, inl, inr, arith}
+use Rattle.std.proofs.lemmas.List.{take_more}
+use Rattle.std.proofs.lemmas.Bool.{cases_eq, cases_lt}
 use Rattle.action.specs.Lists.{◌∈◌}
-use Rattle.action.specs.Action.{same}
-use Rattle.action.proofs.Basics.{in_cases, T_true, true_T}
-use Rattle.action.proofs.Sets.{same_eq, eq_same}
+use Rattle.action.proofs.Basics.{in_cases}
 use Rattle.action.proofs.Relations.{within_has, has_within}
 use Rattle.catalogue.specs.declared.Move.{Move}
 use Rattle.catalogue.specs.Catalogue.{Module, state, move}
@@ -20,8 +17,7 @@ use Rattle.pair_table.proofs.Rounds.{falls_to, round_none, none_round, round_mor
 use Rattle.pair_table.proofs.Ranks.{rank_kept, rank_dropped}
 use Rattle.compare.specs.declared.modules.Side.{Side}
 use Rattle.compare.specs.declared.modules.Side.TheVariants.{New, Old}
-use Rattle.compare.specs.Rows.{Is, Absent, pair_of, pairs_of}
-use Rattle.compare.specs.Sides.{new_target, old_target}
+use Rattle.compare.specs.Rows.{Is, pair_of, pairs_of}
 use Rattle.compare.specs.Indexed.{Apart}
 use Rattle.compare.specs.Ranks.{PartnerBy, Partner, Modest, Lasts, Leaves, Sooner, Holds, Gone, GoneOne, TickHolds, TickGone, Steady, Fails, Judged, JudgedAll, JudgedTick, JudgedRow, Fair}
 use Rattle.compare.proofs.Rows.{in_row, row_in, length_pairs}

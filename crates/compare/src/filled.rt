@@ -13,6 +13,7 @@ pub(crate) struct Filled<'a> {
     pub(crate) index: &'a mut Index,
     pub(crate) count: usize,
     ghost indexed: { Indexed index.now rows.now count },
+    // one more fits each rank
     ghost modest: { Modest rows.now count },
 }
 

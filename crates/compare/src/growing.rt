@@ -66,17 +66,29 @@ impl<'a> Filled<'a> {
     }
 
     // Adds what one row leads to.
-    fn expand<C: Catalogue>(&mut self, modules: &Modules<C>, moves: &mut PairMoves, held: PairRow) -> Result<(), CompareFault>
+    fn expand<C: Catalogue>(
+        &mut self,
+        modules: &Modules<C>,
+        moves: &mut PairMoves,
+        held: PairRow,
+    ) -> Result<(), CompareFault>
         ensures same_reference { self.new.rows.ghost_name ≡ self.old.rows.ghost_name }
         ensures grows { Grows self.old self.new (added (pairs_in self.old) (leads_to modules.now.new modules.now.old (pair_of held))) result }
     {
         modules.moves(held, moves);
         self.admit_moves(moves.news.as_slice(), moves.olds.as_slice())?;
-        self.admit_ticks(modules.tick(Side::New, held.new), modules.tick(Side::Old, held.old))
+        self.admit_ticks(
+            modules.tick(Side::New, held.new),
+            modules.tick(Side::Old, held.old),
+        )
     }
 
     // Adds what each row leads to, from the first row on, until none is left.
-    pub(crate) fn explore<C: Catalogue>(&mut self, modules: &Modules<C>, moves: &mut PairMoves) -> Result<(), CompareFault>
+    pub(crate) fn explore<C: Catalogue>(
+        &mut self,
+        modules: &Modules<C>,
+        moves: &mut PairMoves,
+    ) -> Result<(), CompareFault>
         ensures same_reference { self.new.rows.ghost_name ≡ self.old.rows.ghost_name }
         ensures grows { Grows self.old self.new (explored modules.now.new modules.now.old most_rows 0 (pairs_in self.old)) result }
     {

@@ -31,11 +31,7 @@ fn bucket(new: u32, old: u32) -> usize
 fn linked(link: u16) -> Option<usize>
     ensures { result ≡ row_at link }
 {
-    if link == 0 {
-        None
-    } else {
-        Some(link as usize - 1)
-    }
+    link.checked_sub(1).map(usize::from)
 }
 
 impl Index {

@@ -10,12 +10,14 @@ use catalogue::Catalogue;
 use pair_table::PairRow;
 use std::marker::Model;
 
+// Of which module a state or a move is.
 #[derive(Clone, Copy)]
 pub(crate) enum Side {
     New,
     Old,
 }
 
+// A new module and an old one of a catalogue, by their numbers.
 #[derive(Drop)]
 pub(crate) struct Modules<'a, C: Catalogue> {
     catalogue: &'a C,
@@ -34,7 +36,11 @@ impl<'a, C: Catalogue> Modules<'a, C> {
         ensures new { result.new ≡ module_in (C.Catalogue.meaning catalogue.now) new }
         ensures old { result.old ≡ module_in (C.Catalogue.meaning catalogue.now) old }
     {
-        Modules { catalogue, new, old }
+        Modules {
+            catalogue,
+            new,
+            old,
+        }
     }
 
     // Reads the moves of the two states of a pair. With the two lists as a result, the comparison of modules with one move a state

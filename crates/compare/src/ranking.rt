@@ -92,7 +92,12 @@ impl<'a> Filled<'a> {
     }
 
     // The round that drops a row, as the ranks of the others have it, if it comes before its own rank; else its rank.
-    pub(crate) fn drop_round<C: Catalogue>(&self, modules: &Modules<C>, moves: &mut PairMoves, held: PairRow) -> u32
+    pub(crate) fn drop_round<C: Catalogue>(
+        &self,
+        modules: &Modules<C>,
+        moves: &mut PairMoves,
+        held: PairRow,
+    ) -> u32
         ensures { JudgedRow modules.now.new modules.now.old self.now.rows.now self.now.count held.new held.old held.rank result }
     {
         let tick = self.tick_unmatched(modules, held, held.rank);

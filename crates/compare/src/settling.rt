@@ -18,7 +18,6 @@ impl<'a> Filled<'a> {
     fn sweep<C: Catalogue>(&mut self, modules: &Modules<C>, moves: &mut PairMoves) -> bool
         requires { Fair modules.now.new modules.now.old (pairs_in self.old) self.old.rows.now self.old.count }
         ensures same_reference { self.new.rows.ghost_name ≡ self.old.rows.ghost_name }
-        ensures same_index { self.new.index.now ≡ self.old.index.now }
         ensures same_count { self.new.count ≡ self.old.count }
         ensures swept { Swept modules.now.new modules.now.old (pairs_in self.old) self.old.rows.now self.new.rows.now self.old.count 0 result }
     {
@@ -35,7 +34,7 @@ impl<'a> Filled<'a> {
         fell
     }
 
-    // Sweeps until no rank falls.
+    // Sweeps until no rank falls. Part of `compare`, so that the fields of the rows stay in registers.
     #[inline]
     pub(crate) fn settle<C: Catalogue>(&mut self, modules: &Modules<C>, moves: &mut PairMoves)
         requires { Fair modules.now.new modules.now.old (pairs_in self.old) self.old.rows.now self.old.count }

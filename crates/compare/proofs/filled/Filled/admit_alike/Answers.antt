@@ -7,13 +7,17 @@ use Rattle.compare.proofs.filled.Filled.admit_alike.Goals.{then-a-b+in_ok-admit,
 pub loop-b-preserved : goal.loop-b-preserved
 loop-b-preserved c = elim c.if-a-b.branch [
   | then-a-b+in_ok-admit w ↦
-      simp w.self-is
-      (w.admit.ensures.same_reference ∙ c.loop-b.invariant.0, alike_step c.args.self.now c.loop-b.self w.admit.new.self c.args.a c.args.olds.now c.loop-b.b-index
-      (record { action = pos 0; target = 0 }) _ c.loop-b-test.true (search rules) c.loop-b.invariant.1 w.in_ok-admit.ensures.grows)
+      simp w.self-is (
+        w.admit.ensures.same_reference ∙ c.loop-b.invariant.0,
+        alike_step c.args.self.now c.loop-b.self w.admit.new.self c.args.a c.args.olds.now c.loop-b.b-index
+            (record { action = pos 0; target = 0 }) _ c.loop-b-test.true (search rules) c.loop-b.invariant.1 w.in_ok-admit.ensures.grows,
+      )
   | else-a-b w ↦
-      simp w.self-is
-      (c.loop-b.invariant.0, alike_pass c.args.self.now c.loop-b.self c.args.a c.args.olds.now c.loop-b.b-index
-      (record { action = pos 0; target = 0 }) _ c.loop-b-test.true (λ e. w.if-a-b.false (ap (of_z w8) e)) c.loop-b.invariant.1)
+      simp w.self-is (
+        c.loop-b.invariant.0,
+        alike_pass c.args.self.now c.loop-b.self c.args.a c.args.olds.now c.loop-b.b-index
+            (record { action = pos 0; target = 0 }) _ c.loop-b-test.true (λ e. w.if-a-b.false (ap (of_z w8) e)) c.loop-b.invariant.1,
+      )
 ]
 
 pub returns-in_err-admit-clause-grows : goal.returns-in_err-admit-clause-grows

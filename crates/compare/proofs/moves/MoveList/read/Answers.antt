@@ -9,5 +9,5 @@ pub loop-step-preserved : goal.loop-step-preserved
 loop-step-preserved g c =
     let long : length c.loop-step.self-inside.all ≡ most_moves = search rules in
     read_more c.loop-step.self-inside.all (moves_to_come g.C.Catalogue.meaning c.next.new.self) (moves_to_come g.C.Catalogue.meaning c.loop-step.step-iterator) _ c.loop-step.count c.in-Some.step long
-    (moves_bound (g.C.Catalogue.meaning c.args.catalogue.now) c.args.part c.args.code (g.C.Catalogue.lawful c.args.catalogue.now))
+    (moves_bound (g.C.Catalogue.meaning c.args.catalogue.now) c.args.part c.args.code (g.met.C.Catalogue.lawful c.args.catalogue.now))
     c.in-Some.ensures.steps c.loop-step.invariant.1 c.loop-step.invariant.0
