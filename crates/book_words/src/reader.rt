@@ -45,7 +45,7 @@ fn run_end<F: FnMut(&u8) -> bool>(text: &[u8], from: usize, passes: F) -> usize
     from + text.iter().skip(from).copied().take_while(passes).count()
 }
 
-// Whether two texts are the same.
+// Whether two texts are the same: `==`, for who wants to cite it as the grammar's definitions write it.
 pub fn same_bytes(a: &[u8], b: &[u8]) -> bool
     ensures { result ≡ same a.now b.now }
 {
