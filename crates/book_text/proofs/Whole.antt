@@ -22,10 +22,6 @@ use Rattle.book_text.specs.Outcomes.{judged_read, ReadsWords}
 use Rattle.book_text.specs.Outcomes.Outcome.{turned_away}
 use Rattle.book_text.proofs.Viewing.{known, told_at}
 
-pub at_kind : (p m end : ℕ) (v : Reading) (k k' : Kind) (at : ℕ) (v' : Reading) (d' : Parser) (r : Result (Unit {0}) BookFault) → k' ≡ k
-    → Leads p m end v k at v' d' r → Leads p m end v k' at v' d' r
-at_kind p m end v k k' at v' d' r e h = subst (λ (x : Kind). Leads p m end v x at v' d' r) (sym e) h
-
 -- a parser at another word
 abbrev pub at_word : ℕ → Parser → Parser
 at_word n d = record {
@@ -39,6 +35,14 @@ at_word n d = record {
   titles = d.titles;
   done = d.done;
 }
+
+-- What a parser at the word leads to is what the word leads to.
+pub at_kind : (text : List ℕ) (d : Parser) (P : List Place) (M : List ModuleRow) (k k' : Kind) (at : ℕ) (d' : Parser) (P' : List Place) (M' : List ModuleRow)
+    (r : Result (Unit {0}) BookFault) → k' ≡ k → Leads (length P) (length M) (length text) (view text (at_word at d) P M) k at (view text d' P' M') d' r
+    → Leads (length P) (length M) (length text) (view text d P M) k' at (view text d' P' M') d' r
+unfolding view
+at_kind text d P M k k' at d' P' M' r e h =
+    subst (λ (x : Kind). Leads (length P) (length M) (length text) (view text d P M) x at (view text d' P' M') d' r) (sym e) h
 
 -- what is steady stays so at a later offset
 pub steady_later : (n n' : ℕ) (d : Parser) (p m : ℕ) → n ≤ n' → Steady n d p m → Steady n' d p m

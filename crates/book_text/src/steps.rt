@@ -18,6 +18,7 @@ mod reading;
 
 pub use reading::{Used, read};
 
+// The rows are lent to each step. With them in a field, every contract would have to say besides that they are still the caller's.
 impl Parser {
     fn new() -> Parser
         ensures { Blank result }
