@@ -1,22 +1,25 @@
--- The offsets of a table's records, in lists. Assumes nothing.
-use Rattle.std.specs.Prelude.{ℕ, zero, suc, ◌+◌, List, [], ◌∷◌, ◌++◌, Some, None, Option}
+-- The offsets of a table's records. Assumes nothing.
+use Rattle.std.specs.Prelude.{ℕ, zero, suc, ◌+◌, ◌≤◌, List, map, length, Some, None, vec_items, Option}
 use Rattle.action.specs.Lists.{nth}
 use Rattle.table_format.specs.Numbers.{pair}
 use Rattle.table_format.specs.Reading.{after, offsets, codes_at}
 use Rattle.maker_table.specs.declared.index.ModulePlace.{ModulePlace}
 
-abbrev pub place_of : ℕ → ℕ → ModulePlace
-place_of m first = record { at = m; first = first }
+-- n records, one after the other from i on, begin in the bytes, each with its length
+abbrev pub Lengths : List ℕ → ℕ → ℕ → Type 0
+Lengths b zero i = Unit {0}
+Lengths b (suc n) i = (i + 2 ≤ length b) × Lengths b n (after b i)
 
--- the places of j modules from m on, the modules before them having `first` states
-abbrev pub module_places : List ℕ → ℕ → ℕ → ℕ → List ModulePlace
-module_places b zero m first = []
-module_places b (suc j) m first = place_of m first ∷ module_places b j (after b m) (first + codes_at b m)
+-- the offset of the module at m, and those of its states; of all modules
+abbrev pub place_at : List ℕ → ℕ → ℕ × List ℕ
+place_at b m = (m, offsets b (codes_at b m) (m + 6))
 
--- the offsets of all their states
-abbrev pub state_places : List ℕ → ℕ → ℕ → List ℕ
-state_places b zero m = []
-state_places b (suc j) m = offsets b (codes_at b m) (m + 6) ++ state_places b j (after b m)
+abbrev pub places : List ℕ → List (ℕ × List ℕ)
+places b = map (place_at b) (offsets b (pair b 1) 3)
+
+-- the same, as the table holds them
+abbrev pub shown : ModulePlace → ℕ × List ℕ
+shown p = (p.at, vec_items p.states)
 
 -- the offset of a module's record, and of a state's record in it, where they are there
 abbrev pub module_offset : List ℕ → ℕ → Option ℕ

@@ -1,10 +1,9 @@
 // A maker's table that was taken: its bytes, and where the records lie in them, so that a question walks over none.
-ghost use Rattle.std.specs.Prelude.{◌≡◌, true};
-ghost use Rattle.table_format.specs.Numbers.{pair};
+ghost use Rattle.std.specs.Prelude.{◌≡◌, true, map};
 ghost use Rattle.table_format.specs.Taking.{taken};
-ghost use Rattle.maker_table.specs.Index.{module_places, state_places};
+ghost use Rattle.maker_table.specs.Index.{places, shown};
 
-use super::index::Index;
+use super::index::ModulePlace;
 
 mod asking;
 mod taking;
@@ -12,8 +11,7 @@ mod taking;
 #[derive(Drop)]
 pub struct Table {
     bytes: Vec<u8>,
-    index: Index,
+    modules: Vec<ModulePlace>,
     ghost fine: { taken bytes.items ≡ true },
-    ghost placed: { index.modules.items ≡ module_places bytes.items (pair bytes.items 1) 3 0 },
-    ghost listed: { index.states.items ≡ state_places bytes.items (pair bytes.items 1) 3 },
+    ghost placed: { map shown modules.items ≡ places bytes.items },
 }

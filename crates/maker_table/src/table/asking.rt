@@ -1,10 +1,10 @@
 // The questions to a table: each finds its record by the offsets that were listed when the table was taken.
-ghost use Rattle.std.specs.Prelude.{◌≡◌, ◌+◌, ◌≤◌, map, length, Some, None, IfSome, MatchOption};
+ghost use Rattle.std.specs.Prelude.{◌≡◌, map, Some, None, MatchOption};
 ghost use Rattle.action.specs.Sets.{set_of};
 ghost use Rattle.table_format.specs.Records.{marked};
 ghost use Rattle.table_format.specs.Reading.{entry_record, meaning as meaning_of};
 ghost use Rattle.table_format.proofs.Taken.{taken_lawful};
-ghost use Rattle.maker_table.specs.Index.{module_offset, state_offset};
+ghost use Rattle.maker_table.specs.Index.{state_offset};
 ghost use Rattle.maker_table.specs.Table.{written};
 
 use super::Table;
@@ -26,25 +26,12 @@ fn marked_actions(moves: &[[u8; 4]]) -> ActionSet
 }
 
 impl Table {
-    // The offset of a module's record.
-    fn module_at(&self, part: usize) -> Option<usize>
-        ensures at { result ≡ module_offset (written self.now) part }
-        ensures inside { IfSome result (λ i. i + 6 ≤ length (written self.now)) }
-    {
-        let place = self.index.modules.get(part)?;
-        Some(place.at as usize)
-    }
-
     // The record of a state.
     fn state_at(&self, part: usize, code: u32) -> Option<StateRecord<'_>>
         ensures { MatchOption result (state_offset (written self.now) part code ≡ None) (λ r. (r.bytes.now ≡ written self.now) × (state_offset (written self.now) part code ≡ Some r.at)) }
     {
-        let place = self.index.modules.get(part)?;
-        let codes = pair_at(self.bytes.as_slice(), place.at as usize + 2)?;
-        if code >= u32::from(codes) {
-            return None;
-        }
-        let at = self.index.states.get(place.first as usize + code as usize)?;
+        let place = self.modules.get(part)?;
+        let at = place.states.get(code as usize)?;
         Some(StateRecord {
             bytes: self.bytes.as_slice(),
             at: *at as usize,
@@ -58,17 +45,17 @@ impl Catalogue for Table {
     ghost lawful = { λ t. taken_lawful (written t) t.fine };
 
     fn modules(&self) -> usize {
-        self.index.modules.len()
+        self.modules.len()
     }
 
     fn codes(&self, part: usize) -> Option<u32> {
-        let at = self.module_at(part)?;
-        Some(pair_at(self.bytes.as_slice(), at + 2)?.into())
+        let place = self.modules.get(part)?;
+        Some(place.states.len() as u32)
     }
 
     fn start(&self, part: usize) -> Option<u32> {
-        let at = self.module_at(part)?;
-        Some(pair_at(self.bytes.as_slice(), at + 4)?.into())
+        let place = self.modules.get(part)?;
+        Some(pair_at(self.bytes.as_slice(), place.at as usize + 4)?.into())
     }
 
     fn move_at(&self, part: usize, code: u32, number: usize) -> Option<Move> {

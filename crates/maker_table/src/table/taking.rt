@@ -2,7 +2,7 @@
 ghost use Rattle.table_format.specs.Law.{LawOf};
 ghost use Rattle.maker_table.specs.Table.{Answered};
 
-use super::super::index::Index;
+use super::super::index::places;
 use super::Table;
 use std::alloc::Global;
 use table_format::{TableFault, try_table};
@@ -14,7 +14,7 @@ impl Table {
         ensures law { LawOf bytes.items }
     {
         try_table(bytes.as_slice())?;
-        let index = Index::of(heap, bytes.as_slice())?;
-        Ok(Table { bytes, index })
+        let modules = places(heap, bytes.as_slice())?;
+        Ok(Table { bytes, modules })
     }
 }

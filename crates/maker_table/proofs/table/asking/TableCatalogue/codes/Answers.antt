@@ -1,20 +1,20 @@
-use Rattle.std.proofs.Common.{◌+◌, length, Some, None, sym, ap, ◌∙◌, arith}
-use Rattle.table_format.specs.Numbers.{pair}
-use Rattle.table_format.proofs.Numbers.{pair_read, pair_lost}
+use Rattle.std.proofs.Common.{Some, sym, ap, ◌∙◌, arith}
 use Rattle.maker_table.specs.Table.{written}
-use Rattle.maker_table.proofs.Lookup.{told_codes}
+use Rattle.maker_table.proofs.Lookup.{told_codes, listed, place_fine, place_codes}
 use Rattle.maker_table.proofs.table.asking.TableCatalogue.codes.Goals as goal
 
-pub returns-in_err-at : goal.returns-in_err-at
-returns-in_err-at c = c.from_residual.ensures ∙ sym (told_codes (written c.args.self.now) c.args.part None c.in_err-at.ensures.at)
-
-pub overflow_add-at : goal.overflow_add-at
-overflow_add-at c = omega (arith, c.in_ok-at.ensures.inside, ap length c.as_slice.ensures.value)
-
-pub returns-in_err-pair_at : goal.returns-in_err-pair_at
-returns-in_err-pair_at c = absurd (pair_lost c.as_slice.result.now (c.in_ok-at.at + 2) (omega (arith, c.in_ok-at.ensures.inside, ap length c.as_slice.ensures.value)) c.in_err-pair_at.ensures)
+pub overflow_cast-result : goal.overflow_cast-result
+overflow_cast-result c =
+    let t = c.args.self.now in
+    let p = c.in_ok-place.place.now in
+    let h = c.in_ok-place.ensures.lookup in
+    let l = listed t c.args.part p c.deref.result.now c.deref.ensures.value h.3.0 h.1 in
+    omega (arith, c.len.ensures, p.states.ok.0, place_codes t c.args.part p l, (place_fine t c.args.part p l).few)
 
 pub returns : goal.returns
 returns c =
-    ap Some (c.into.ensures ∙ pair_read c.as_slice.result.now (c.in_ok-at.at + 2) c.in_ok-pair_at.field-0 c.in_ok-pair_at.ensures ∙ ap (λ z. pair z (c.in_ok-at.at + 2)) c.as_slice.ensures.value)
-    ∙ sym (told_codes (written c.args.self.now) c.args.part (Some c.in_ok-at.at) c.in_ok-at.ensures.at)
+    let t = c.args.self.now in
+    let p = c.in_ok-place.place.now in
+    let h = c.in_ok-place.ensures.lookup in
+    let l = listed t c.args.part p c.deref.result.now c.deref.ensures.value h.3.0 h.1 in
+    ap Some (c.len.ensures ∙ p.states.ok.0 ∙ place_codes t c.args.part p l) ∙ sym (told_codes (written t) c.args.part (Some p.at) (sym l.there))
