@@ -35,6 +35,13 @@ fn mark<'a>(b: u8) -> Word<'a>
     }
 }
 
+// What stands from an offset on.
+fn behind(text: &[u8], from: usize) -> &[u8]
+    ensures { result.now ≡ drop from text.now }
+{
+    text.get(from..).unwrap_or(&[])
+}
+
 // The end of the longest run that begins at `from` of bytes that pass a test.
 fn run_end<F: FnMut(&u8) -> bool>(text: &[u8], from: usize, passes: F) -> usize
     requires { (f : _) (b : _) → F.pre f b }
@@ -42,7 +49,11 @@ fn run_end<F: FnMut(&u8) -> bool>(text: &[u8], from: usize, passes: F) -> usize
     ensures behind { from ≤ result }
     ensures within { from ≤ length text.now → result ≤ length text.now }
 {
-    from + text.iter().skip(from).copied().take_while(passes).count()
+    from + behind(text, from)
+        .iter()
+        .copied()
+        .take_while(passes)
+        .count()
 }
 
 // Whether two texts are the same: `==`, for who wants to cite it as the grammar's definitions write it.
