@@ -1,7 +1,6 @@
 // Names by where they stand in the text.
 ghost use Rattle.std.specs.Prelude.{◌≡◌, ◌<◌, ◌≤◌, length, MatchResult};
 ghost use Rattle.std.specs.List.{find};
-ghost use Rattle.arrayvec.specs.ArrayVec.{array_vec_len};
 ghost use Rattle.book_text.specs.declared.fault.WordFault.TheVariants.{Long};
 ghost use Rattle.book_text.specs.Parsers.{part_in};
 ghost use Rattle.book_text.specs.Names.{is_named, Adds};

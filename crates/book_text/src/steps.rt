@@ -1,6 +1,6 @@
 // What each word does.
-ghost use Rattle.std.specs.Prelude.{◌≡◌, ℕ, List, ◌+◌, ◌≤◌, ◌<◌, true, false, [], ◌∷◌, ◌++◌, map, length, MatchResult};
-ghost use Rattle.book_words.specs.Words.Kind.{begins, opens, closes, ends, nil, name as called, bad, leave};
+ghost use Rattle.std.specs.Prelude.{◌≡◌, ℕ, List, ◌+◌, ◌≤◌, true, false, [], ◌∷◌, ◌++◌, map, length, MatchResult};
+ghost use Rattle.book_words.specs.Words.Kind.{begins, opens, closes, ends, nil, bad, leave};
 ghost use Rattle.book_text.specs.declared.fault.BookFault.TheVariants.{NotAllowed, TooMany};
 ghost use Rattle.book_text.specs.declared.parser.State.TheVariants.{Term};
 ghost use Rattle.book_text.specs.Parsers.{row_in, rows_in, side_in, view};

@@ -1,7 +1,6 @@
 // The word reader: it cuts a text into words, and refuses none of them.
-ghost use Rattle.std.specs.Prelude.{◌≡◌, ℕ, ◌+◌, ◌≤◌, Bool, length, drop, IfSome, option_and_then};
+ghost use Rattle.std.specs.Prelude.{◌≡◌, ℕ, ◌+◌, ◌≤◌, Bool, length, drop};
 ghost use Rattle.std.specs.List.{prefix_len};
-ghost use Rattle.action.specs.Action.{opposite as opposite_of};
 ghost use Rattle.book_words.specs.Words.{blank, same, run_kind, mark_kind, port_up_to, port_of, ported};
 ghost use Rattle.book_words.specs.Shown.{kind_of, Spells, NoName, Tells, Cuts};
 

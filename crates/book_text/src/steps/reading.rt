@@ -1,5 +1,5 @@
 // Reading a text, word by word.
-ghost use Rattle.std.specs.Prelude.{◌≡◌, ◌+◌, ◌-◌, ◌^◌, ◌<◌, length, take, drop};
+ghost use Rattle.std.specs.Prelude.{◌+◌, ◌-◌, ◌^◌, ◌<◌, length, take, drop};
 ghost use Rattle.book_words.specs.Shown.{kind_of, Spells};
 ghost use Rattle.book_text.specs.Parsers.{view};
 ghost use Rattle.book_text.specs.Steps.{Steady, Leads};
