@@ -22,6 +22,7 @@ pub struct Book<'a> {
     places: &'a [Place],
     modules: &'a [ModuleRow],
     table: Table,
+    // beside the table and not a `Result` with it, since opening promises what it is by this field
     verdict: Option<RowsFault>,
     ghost tried: { verdict ≡ fault places.now modules.now },
     ghost kept: { KeepsAll places.now modules.now table.rows verdict },

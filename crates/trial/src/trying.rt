@@ -83,7 +83,8 @@ impl Module<'_> {
         next
     }
 
-    // The summaries of all places. A walk through more places than there are comes back, so as many rounds decide.
+    // The summaries of all places, in an array, so that no want of memory can stop the trying. A walk through more places
+    // than there are comes back, so as many rounds decide.
     fn summarize(&self) -> [Summary; 256]
         requires { AllInside self.now.places.now }
         ensures { Summarizes self.now.places.now (length self.now.places.now) result }

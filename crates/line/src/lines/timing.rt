@@ -21,6 +21,7 @@ fn has_code<C: Catalogue>(catalogue: &C, part: usize, code: u32) -> bool
     catalogue.codes(part).is_some_and(|codes| code < codes)
 }
 
+// The catalogue and the state stay parameters, as `time` is handed them: a struct of the three would be made for it alone.
 impl Line {
     // Whether the catalogue has the module of every slot.
     fn is_known<C: Catalogue>(&self, catalogue: &C) -> bool
@@ -86,6 +87,7 @@ impl Line {
         ensures { (a : ℤ) → has result a ≡ (not (hides (line_of self.now) a) && has set a) }
     {
         let mut out = ActionSet::empty();
+        // a loop, since a fold that inserts into a set is no plainer
         for action in set.iter() {
             if !self.hides(action) {
                 out.insert(action);
