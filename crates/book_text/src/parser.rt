@@ -14,7 +14,7 @@ pub const MOST_LETTERS: usize = 16;
 
 // The states of the automaton, each named by what comes next: a module or the end, a module's name, its `{`, a left side or the `}`, the
 // `=`, a term, the `.` of a prefix; the last is behind a term.
-#[derive(Clone, Copy, Default, PartialEq, Eq)]
+#[derive(Clone, Copy, Debug, Default, PartialEq, Eq)]
 pub enum State {
     #[default]
     Outside,
@@ -28,7 +28,7 @@ pub enum State {
 }
 
 // What waits for the term that follows it: a wait, an action, a sum that has its left place.
-#[derive(Clone, Copy, Default)]
+#[derive(Clone, Copy, Debug, Default, PartialEq, Eq)]
 pub enum Open {
     #[default]
     Waiting,

@@ -1,5 +1,5 @@
 // A word of a text. A name is the part of the text that it occupies.
-#[derive(Clone, Copy)]
+#[derive(Clone, Copy, Debug, PartialEq, Eq)]
 pub enum Word<'a> {
     // a byte outside the alphabet
     Alien,
@@ -30,7 +30,7 @@ pub enum Word<'a> {
 }
 
 // A word with its offset, and the offset behind it.
-#[derive(Clone, Copy)]
+#[derive(Clone, Copy, Debug, PartialEq, Eq)]
 pub struct Found<'a> {
     pub at: usize,
     pub end: usize,

@@ -12,6 +12,12 @@ mod moves;
 
 pub use moves::Moves;
 
+// The most modules of a catalogue.
+pub const MOST_MODULES: usize = 256;
+
+// The most moves of a state.
+pub const MOST_MOVES: usize = 64;
+
 // One thing that a module can do in a state: an action, and the code of the state that it leads to.
 #[derive(Clone, Copy, Debug, Default, PartialEq, Eq)]
 pub struct Move {

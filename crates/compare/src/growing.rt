@@ -6,11 +6,10 @@ ghost use Rattle.compare.specs.Rows.{pair_of};
 ghost use Rattle.compare.specs.Growth.{Grows, pairs_in};
 
 use crate::filled::Filled;
-use crate::index::MOST_ROWS;
 use crate::modules::{Modules, Side};
 use crate::moves::PairMoves;
 use catalogue::{Catalogue, Move};
-use pair_table::{CompareFault, PairRow};
+use pair_table::{CompareFault, MOST_ROWS, PairRow};
 
 impl<'a> Filled<'a> {
     // Adds a pair unless it is there already, or refuses where there is no room.

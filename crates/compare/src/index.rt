@@ -5,10 +5,7 @@ ghost use Rattle.pair_table.specs.Pairs.{most_rows};
 ghost use Rattle.compare.specs.Rows.{Is, Absent};
 ghost use Rattle.compare.specs.Indexed.{Indexed, bucket_of, row_at};
 
-use pair_table::PairRow;
-
-// The most rows of a table that are filled.
-pub(crate) const MOST_ROWS: usize = 32768;
+use pair_table::{MOST_ROWS, PairRow};
 
 // For each bucket the last row in it, and for each row the last one before it in the same bucket, each as one more than the
 // row's number, 0 where there is none. So a walk along a bucket falls, and ends. Links of type `Option<u16>` take twice the memory:

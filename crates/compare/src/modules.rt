@@ -11,7 +11,7 @@ use pair_table::PairRow;
 use std::marker::Model;
 
 // Of which module a state or a move is.
-#[derive(Clone, Copy)]
+#[derive(Clone, Copy, Debug, PartialEq, Eq)]
 pub(crate) enum Side {
     New,
     Old,

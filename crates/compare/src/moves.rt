@@ -3,11 +3,8 @@ ghost use Rattle.std.specs.Prelude.{◌≡◌, ◌≤◌, List, [], take};
 ghost use Rattle.catalogue.specs.declared.Move.{Move};
 ghost use Rattle.catalogue.specs.Catalogue.{most_moves, state_in};
 
-use catalogue::{Catalogue, Move, Moves};
+use catalogue::{Catalogue, MOST_MOVES, Move, Moves};
 use std::marker::Model;
-
-// The most moves of a state.
-const MOST_MOVES: usize = 64;
 
 // The moves of a state, in their order. An `ArrayVec` blanks what it drops: with it the comparison of modules with one move a state
 // took 0.30 s in place of 0.25 s.

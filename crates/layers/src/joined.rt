@@ -6,10 +6,7 @@ ghost use Rattle.layers.specs.Meanings.{joined_meaning};
 ghost use Rattle.layers.specs.Places.{Placed};
 
 use action::ActionSet;
-use catalogue::{Catalogue, Move};
-
-// As many modules may a catalogue have.
-const MOST_MODULES: usize = 256;
+use catalogue::{Catalogue, MOST_MODULES, Move};
 
 #[derive(Drop)]
 pub struct Joined<A, B> {
@@ -18,7 +15,7 @@ pub struct Joined<A, B> {
 }
 
 // Where a module of a join is found, and with which number there.
-#[derive(Clone, Copy)]
+#[derive(Clone, Copy, Debug, PartialEq, Eq)]
 enum Place {
     Front(usize),
     Back(usize),

@@ -15,7 +15,7 @@ use super::number::{action_of, after, pair_at};
 use super::record::StateRecord;
 use action::is_action;
 
-// The limits of a table.
+// The limits of a table, which the format has of its own beside those of a catalogue.
 const MOST_MODULES: usize = 64;
 
 const MOST_STATES: usize = 4096;

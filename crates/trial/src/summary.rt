@@ -5,7 +5,7 @@ ghost use Rattle.trial.specs.Summaries.{unknown, summary_by};
 use rows::Place;
 
 // Followed through no place nothing is known, which is the default.
-#[derive(Clone, Copy, Default)]
+#[derive(Clone, Copy, Debug, Default, PartialEq, Eq)]
 pub struct Summary {
     // a walk from the place through waits, sums and names ends
     pub guarded: bool,

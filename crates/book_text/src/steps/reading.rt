@@ -15,7 +15,7 @@ use book_words::{Found, Word, Words};
 use rows::{ModuleRow, Place};
 
 // How many rows a reading used.
-#[derive(Clone, Copy)]
+#[derive(Clone, Copy, Debug, PartialEq, Eq)]
 pub struct Used {
     pub places: usize,
     pub modules: usize,
