@@ -47,7 +47,8 @@ impl Stack {
         self.ops.get(i).copied().unwrap_or_default()
     }
 
-    // The ops above `low` are complete, the last one first: the number of rows then.
+    // The ops above `low` are complete, the last one first: the number of rows then. The parser, whose fields it takes, lends its
+    // stack meanwhile.
     pub(crate) fn complete(&self, low: usize, first: usize, rows: u16, places: &mut [Place]) -> u16
         requires few { rows + (self.now.pending - low) ≤ 256 }
         requires room { first + (rows + (self.now.pending - low)) ≤ length places.old }

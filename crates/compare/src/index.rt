@@ -42,7 +42,7 @@ impl Index {
         }
     }
 
-    // The row that holds a pair, among the first `count`.
+    // The row that holds a pair, among the first `count`: what `Filled` has together, which calls this alone.
     pub(crate) fn find(&self, rows: &[PairRow], count: usize, new: u32, old: u32) -> Option<usize>
         requires { Indexed self.now rows.now count }
         ensures { MatchOption result (Absent rows.now count new old) (λ i. (i < count) × Is rows.now i new old) }

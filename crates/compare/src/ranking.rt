@@ -40,7 +40,8 @@ impl<'a> Filled<'a> {
         }
     }
 
-    // The round at which a move has lost its partners, if it comes before `limit`; else `limit`.
+    // The round at which a move has lost its partners, if it comes before `limit`; else `limit`. What is asked stands in this
+    // function and the next alone, with one move and with many, so it is no struct.
     fn unmatched(&self, side: Side, a: Move, others: &[Move], limit: u32) -> u32
         ensures { Judged self.now.rows.now self.now.count side a others.now limit result }
     {

@@ -150,7 +150,8 @@ fn refused_text(heap: Global, why: FileFault) -> Result<String, AllocError>
     format!(in heap; "{why}\n")
 }
 
-// What is asked of a catalogue.
+// What is asked of a catalogue. A request is what the arguments say, and no closure could stand for it, since what it asks is
+// generic in the catalogue.
 fn answer_text<C: Catalogue>(
     heap: Global,
     catalogue: &C,

@@ -12,7 +12,8 @@ use pair_table::PairRow;
 impl Line {
     // Puts the module `new` into a slot if it does what the one that stands there does and is never slower: the pair count,
     // or a refusal. A refused swap leaves the line as it stood. Whatever line was drawn from this catalogue, and whatever
-    // swaps led to the line as it is handed over, it is left no slower than as drawn, and never comes to a stand.
+    // swaps led to the line as it is handed over, it is left no slower than as drawn, and never comes to a stand. The slot, the
+    // new module and the lent table come from the caller, each on its own, so they are no struct.
     pub fn swap<C: Catalogue>(
         &mut self,
         catalogue: &C,
