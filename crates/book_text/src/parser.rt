@@ -43,7 +43,8 @@ pub struct Span {
     pub size: usize,
 }
 
-// A name that was given, and the place of its right side: 0 where that is not known yet, and for a module's name.
+// A name that was given, and the place of its right side: 0 where that is not known yet, and for a module's name. No Option, since
+// a place is only looked up behind the closing brace, where each has one.
 #[derive(Clone, Copy, Default)]
 pub struct Label {
     pub name: Span,

@@ -16,11 +16,11 @@ use super::record::StateRecord;
 use action::is_action;
 
 // The limits of a table, which the format has of its own beside those of a catalogue.
-const MOST_MODULES: usize = 64;
+const MOST_TABLE_MODULES: usize = 64;
 
-const MOST_STATES: usize = 4096;
+const MOST_TABLE_STATES: usize = 4096;
 
-const MOST_MOVES: usize = 64;
+const MOST_TABLE_MOVES: usize = 64;
 
 // Whether a byte holds an action.
 fn is_action_byte(byte: u8) -> bool
@@ -79,7 +79,7 @@ fn try_state_fields(state: StateRecord, codes: usize) -> Result<(), TableFault>
         return Err(TableFault::NotAState(state.at + 2));
     }
     let moves = state.moves();
-    if moves.len() > MOST_MOVES {
+    if moves.len() > MOST_TABLE_MOVES {
         return Err(TableFault::TooManyMoves(state.at + 4));
     }
     try_moves(state, codes)?;
@@ -133,7 +133,7 @@ fn try_module_head(bytes: &[u8], m: usize) -> Result<Module<'_>, TableFault>
         .ok_or(TableFault::PastEnd(m))?;
     let module = &bytes[..end];
     let codes = pair_at(module, m + 2).ok_or(TableFault::PastEnd(m + 2))? as usize;
-    if codes < 1 || codes > MOST_STATES {
+    if codes < 1 || codes > MOST_TABLE_STATES {
         return Err(TableFault::WrongStateCount(m + 2));
     }
     let start = pair_at(module, m + 4).ok_or(TableFault::PastEnd(m + 4))? as usize;
@@ -168,7 +168,7 @@ fn try_head(bytes: &[u8]) -> Result<usize, TableFault>
         return Err(TableFault::NotVersionOne);
     }
     let count = pair_at(bytes, 1).ok_or(TableFault::PastEnd(1))? as usize;
-    if count > MOST_MODULES {
+    if count > MOST_TABLE_MODULES {
         return Err(TableFault::TooManyModules);
     }
     Ok(count)

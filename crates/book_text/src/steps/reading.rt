@@ -22,7 +22,7 @@ pub struct Used {
 }
 
 impl Parser {
-    // What a word does; the smallest number that holds refuses it.
+    // What a word does; the smallest number that holds refuses it. The text and the rows are lent to each step, as said where its methods begin.
     fn step(
         &mut self,
         text: &[u8],

@@ -75,7 +75,7 @@ pub fn fault_text<E: fmt::Display>(heap: Global, name: &str, why: &E) -> Result<
     format!(in heap; "{name} {why}\n")
 }
 
-// That a file is longer than a file may be, under its name.
+// That a file is longer than a file may be, under its name. A line without a value needs no type that prints it.
 pub fn long_text(heap: Global, name: &str) -> Result<String, AllocError>
     ensures { IfOk result (λ s. string_bytes s ≡ long_line name.now) }
 {

@@ -6,8 +6,8 @@ use Rattle.table_format.proofs.Entries.{count_entries}
 use Rattle.table_format.proofs.Fields.{count_stops, moves_stop_fields, time_stops, fields_pass}
 use Rattle.table_format.proofs.trying.try_state_fields.Goals as goal
 
-pub returns-then-moves-gt-MOST_MOVES : goal.returns-then-moves-gt-MOST_MOVES
-returns-then-moves-gt-MOST_MOVES c =
+pub returns-then-moves-gt-MOST_TABLE_MOVES : goal.returns-then-moves-gt-MOST_TABLE_MOVES
+returns-then-moves-gt-MOST_TABLE_MOVES c =
     let b = c.args.state.bytes.now in
     let s = c.args.state.at in
     count_stops b c.args.codes s c.tick-tick.result c.tick-tick.ensures (sym c.leads_outside.ensures ∙ c.if-leads_outside.false)
