@@ -1,12 +1,11 @@
 -- Listing the places of records, one after the other. Assumes nothing.
-use Rattle.std.proofs.Common.{◌≡◌, ℕ, zero, suc, ◌+◌, ◌*◌, ◌^◌, ◌<◌, ◌≤◌, List, [], ◌∷◌, ◌++◌, map, take, length, get_or, None, sym, ap, ◌∙◌, subst, arith}
-use Rattle.std.proofs.lemmas.List.{append_assoc, map-append, take_more}
+use Rattle.std.proofs.Common.{◌≡◌, ℕ, zero, suc, ◌+◌, ◌*◌, ◌^◌, ◌<◌, ◌≤◌, List, [], ◌∷◌, ◌++◌, length, None, sym, ap, ◌∙◌, subst, arith}
+use Rattle.std.proofs.lemmas.List.{append_assoc}
 use Rattle.table_format.specs.declared.fault.TableFault.TheVariants.{LeftOver}
-use Rattle.maker_table.specs.declared.index.ModulePlace.{ModulePlace}
 use Rattle.table_format.specs.Numbers.{pair, Bytes}
 use Rattle.table_format.specs.Reading.{after, offsets}
 use Rattle.table_format.specs.Taking.{state_fault, states_fault, module_fault, modules_fault, fault}
-use Rattle.maker_table.specs.Index.{Lengths, place_at, shown}
+use Rattle.maker_table.specs.Index.{Lengths}
 use Rattle.table_format.proofs.Faults.{then_l, then_r, le_none}
 use Rattle.table_format.proofs.Fine.{state_fine, module_fine, fine}
 
@@ -41,9 +40,3 @@ modules_short b (suc j) m B h = omega (arith, modules_short b j (after b m) B (t
 -- a table without a fault is short, and so is its list of modules
 pub table_short : (b : List ℕ) → Bytes b → fault b ≡ None → length b < 2 ^ 32
 table_short b B h = let f = fine b h in omega (arith, f.few, modules_short b (pair b 1) 3 B f.all_modules)
-
--- one more module is listed
-pub places_on : (b : List ℕ) (ms ns : List ModulePlace) (os : List ℕ) (i : ℕ) (p : ModulePlace) → i < length os → ns ≡ ms ++ (p ∷ []) → shown p ≡ place_at b (get_or os i 0) → map shown ms ≡ map (place_at b) (take i os) → map shown ns ≡ map (place_at b) (take (i + 1) os)
-places_on b ms ns os i p l e q h =
-    ap (map shown) e ∙ map-append shown ms (p ∷ []) ∙ ap (λ (z : List (ℕ × List ℕ)). z ++ (shown p ∷ [])) h ∙ ap (λ (z : ℕ × List ℕ). map (place_at b) (take i os) ++ (z ∷ [])) q
-    ∙ sym (map-append (place_at b) (take i os) (get_or os i 0 ∷ [])) ∙ ap (map (place_at b)) (sym (take_more os i 0 l))

@@ -94,11 +94,6 @@ itself_made f l h = ext_get_or internal f each_to_itself l (λ k m. (let q : k +
 pub itself_full : full each_to_itself ≡ true
 itself_full = refl
 
-pub itself_stays : (a : ℤ) → nat_abs a ≤ last_port → renamed each_to_itself a ≡ a
-itself_stays (pos zero) h = refl
-itself_stays (pos (suc n)) h = kept_at last_port 1 n (omega arith) ∙ ap pos (omega arith)
-itself_stays (negsuc n) h = let p : 1 + n ≡ suc n = omega arith in ap neg_ℤ (kept_at last_port 1 n (omega arith) ∙ ap pos p)
-
 -- ── images ──
 
 abbrev becomes : List ℤ → ActionSet → ℤ → ℤ → Bool
@@ -152,30 +147,6 @@ gathers_none f s out h a =
     ap (λ t. t || (is_action a && any (λ b. same (renamed f b) a) (kept (has s) actions))) (h a)
     ∙ ap (λ t. is_action a && t) (any_kept (has s) (λ b. same (renamed f b) a) actions)
     ∙ sym (set_of_has (λ x. any (becomes f s x) actions) a)
-
--- one more is gathered
-shift : (h i j p : Bool) → ((h || i) || (j && p)) ≡ (h || (i || (j && p)))
-shift true i j p = refl
-shift false i j p = refl
-
-merge : (i j s p : Bool) → (i && s) ≡ (j && s) → ((i && s) || (j && p)) ≡ (j && (s || p))
-merge i true true p e = ap (λ t. t || p) e
-merge i true false p e = ap (λ t. t || p) e
-merge i false s p e = ap (λ t. t || false) e
-
-one_action : (r a : ℤ) → (is_action r && same r a) ≡ (is_action a && same r a)
-one_action r a = both_true (is_action r && same r a) (is_action a && same r a)
-    (λ h. (let s = and_r (is_action r) (same r a) h in and_i (is_action a) (same r a) (subst (λ x. T (is_action x)) (same_eq r a s) (and_l (is_action r) (same r a) h)) s))
-    (λ h. (let s = and_r (is_action a) (same r a) h in and_i (is_action r) (same r a) (subst (λ x. T (is_action x)) (sym (same_eq r a s)) (and_l (is_action a) (same r a) h)) s))
-
-pub gathers_more : (f : List ℤ) (out more : ActionSet) (b : ℤ) (all rest : List ℤ) → all ≡ b ∷ rest → ((a : ℤ) → has more a ≡ (has out a || (is_action (renamed f b) && same (renamed f b) a))) → (a : ℤ) → gathers f more rest a ≡ gathers f out all a
-gathers_more f out more b all rest e h a =
-    let r = renamed f b in
-    let p = any (λ c. same (renamed f c) a) rest in
-    ap (λ t. t || (is_action a && p)) (h a)
-    ∙ shift (has out a) (is_action r && same r a) (is_action a) p
-    ∙ ap (λ t. has out a || t) (merge (is_action r) (is_action a) (same r a) p (one_action r a))
-    ∙ ap (λ xs. gathers f out xs a) (sym e)
 
 -- nothing is left
 pub gathers_all : (f : List ℤ) (s out : ActionSet) → ((a : ℤ) → gathers f out [] a ≡ has (image f s) a) → out ≡ image f s

@@ -1,7 +1,6 @@
 -- Bytes back and forth. Assumes nothing.
-use Rattle.std.proofs.Common.{◌≡◌, ℕ, zero, suc, ◌+◌, ◌-◌, ◌<◌, ◌≤◌, Bool, true, false, eqb, ltb, leb, List, length, ℤ, pos, negsuc, nat_abs, Some, None, Option, sym, refl, ap, ◌∙◌, arith, w8, to_z}
+use Rattle.std.proofs.Common.{◌≡◌, ℕ, zero, suc, ◌+◌, ◌-◌, ◌<◌, ◌≤◌, Bool, true, false, eqb, ltb, leb, List, length, ℤ, pos, negsuc, nat_abs, Some, None, Option, sym, refl, ap, ◌∙◌, arith}
 use Rattle.std.proofs.lemmas.Bool.{ltb-true, ltb-false, eqb-true, le-leb}
-use mir.Facts.{to_z_pos, to_z-neg}
 use Rattle.action.specs.Action.{last_port}
 use Rattle.table_format.specs.Numbers.{pair, pair_in, action_byte, byte_action, mark_byte}
 use Rattle.table_format.specs.Encoding.{tick_number, no_tick}
@@ -75,14 +74,3 @@ module _ (b : List ℕ) (i : ℕ) where
 
     pub after_there : after_in b i ≡ Some (after b i)
     after_there = there (leb (i + 2) (length b)) (after b i) (le-leb (i + 2) (length b) l)
-
--- the cast of a byte
-pub cast_action : (x : ℕ) → x < 256 → to_z w8 x ≡ byte_action x
-cast_action x h = go (ltb x 128) refl
-  where
-    go : (t : Bool) → ltb x 128 ≡ t → to_z w8 x ≡ elim t as (λ _. ℤ) [ true ↦ pos x | false ↦ negsuc (255 - x) ]
-    go true e = to_z_pos w8 (ltb-true x 128 e)
-    go false e =
-        let l = ltb-false x 128 e in
-        let q : x ≡ 256 - suc (255 - x) = omega arith in
-        ap (to_z w8) q ∙ to_z-neg w8 (255 - x) (omega arith)

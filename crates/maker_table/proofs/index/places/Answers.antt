@@ -1,12 +1,11 @@
-use Rattle.std.proofs.Common.{◌≡◌, ℕ, ◌+◌, List, map, get_or, vec_items, sym, refl, ap, ◌∙◌, subst, arith}
-use Rattle.std.proofs.lemmas.List.{take_all}
+use Rattle.std.proofs.Common.{◌≡◌, ◌+◌, get_or, sym, refl, ◌∙◌, subst, arith}
 use Rattle.table_format.specs.Numbers.{pair}
-use Rattle.table_format.specs.Reading.{offsets, codes_at}
+use Rattle.table_format.specs.Reading.{codes_at}
 use Rattle.table_format.proofs.Fine.{fine}
 use Rattle.table_format.proofs.Numbers.{pair_read, pair_there}
-use Rattle.maker_table.specs.Index.{place_at, shown, Lengths}
+use Rattle.maker_table.specs.Index.{Lengths}
 use Rattle.maker_table.proofs.Lookup.{module_of}
-use Rattle.maker_table.proofs.Places.{states_begin, modules_begin, table_short, places_on}
+use Rattle.maker_table.proofs.Places.{states_begin, modules_begin, table_short}
 use Rattle.maker_table.proofs.index.places.Goals as goal
 
 pub unwrap-requires : goal.unwrap-requires
@@ -20,9 +19,6 @@ offsets-requires-clause-in_bytes c =
 
 pub offsets-requires-clause-short : goal.offsets-requires-clause-short
 offsets-requires-clause-short c = table_short c.args.bytes.now (λ i. omega (arith, c.type_inv.bytes i)) c.requires
-
-pub loop-at-init : goal.loop-at-init
-loop-at-init c = ap (map shown) c.new-found.ensures.items
 
 pub unwrap-codes-requires : goal.unwrap-codes-requires
 unwrap-codes-requires c =
@@ -44,18 +40,3 @@ offsets-requires-in-loop-at-clause-in_bytes c =
 
 pub offsets-requires-in-loop-at-clause-short : goal.offsets-requires-in-loop-at-clause-short
 offsets-requires-in-loop-at-clause-short c = table_short c.args.bytes.now (λ i. omega (arith, c.type_inv.bytes i)) c.requires
-
-pub loop-at-preserved : goal.loop-at-preserved
-loop-at-preserved c =
-    let b = c.args.bytes.now in
-    let os = c.deref-at-items.result.now in
-    let i = get_or os c.loop-at.at-index 0 in
-    let k : c.unwrap-codes.result ≡ codes_at b i = pair_read b (i + 2) c.unwrap-codes.result (sym c.unwrap-codes.ensures ∙ c.pair_at-in-loop-at.ensures) in
-    places_on b (vec_items c.loop-at.found) (vec_items c.push.new.self) os c.loop-at.at-index _ c.loop-at-test.true c.in_ok-push.ensures.items
-    (ap (λ (z : List ℕ). (i, z)) (c.in_ok-states.ensures ∙ ap (λ j. offsets b j (i + 6)) k)) c.loop-at.invariant
-
-pub returns : goal.returns
-returns c =
-    let b = c.args.bytes.now in
-    let n : c.unwrap.result ≡ pair b 1 = pair_read b 1 c.unwrap.result (sym c.unwrap.ensures ∙ c.pair_at.ensures) in
-    c.loop-at.invariant ∙ ap (map (place_at b)) (take_all c.loop-at.at-index c.deref-at-items.result.now c.loop-at-test.false ∙ c.deref-at-items.ensures.value ∙ c.in_ok-modules.ensures ∙ ap (λ j. offsets b j 3) n)
