@@ -61,15 +61,10 @@ pub start_missing : (o : Option ℕ) (e d : CompareFault) → Err d ≡ ok_or o 
 start_missing None e d h = (refl, cc)
 start_missing (Some x) e d h = absurd (let z : ◌≡◌ {A = ℕ} 0 1 = cc in omega arith)
 
-pub at_exit : (ms : Catalogue) (new old : ℕ) (t t' u u' : List PairRow) (r r' : Result Compared CompareFault) → t ≡ t' → u ≡ u' → r ≡ r'
-    → Compares ms new old t u r → Compares ms new old t' u' r'
-at_exit ms new old t t' u u' r r' et eu er k =
-    subst (λ (x : List PairRow). Compares ms new old x u' r') et
-    (subst (λ (y : List PairRow). Compares ms new old t y r') eu (subst (λ (z : Result Compared CompareFault). Compares ms new old t u z) er k))
-
--- what is shown of the two modules as they are held
-pub of_sides : (P : Module → Module → Type 0) (s : Sides) (n o : Module) → s.new ≡ n → s.old ≡ o → P s.new s.old → P n o
-of_sides P s n o en eo k = subst (λ (x : Module). P x o) en (subst (λ (y : Module). P s.new y) eo k)
+pub at_exit : (ms : Catalogue) (new old : ℕ) (t t' u u' : List PairRow) {r : Result Compared CompareFault} → t ≡ t' → u' ≡ u
+    → Compares ms new old t u r → Compares ms new old t' u' r
+at_exit ms new old t t' u u' {r} et eu k =
+    subst (λ (x : List PairRow). Compares ms new old x u' r) et (subst (λ (y : List PairRow). Compares ms new old t y r) (sym eu) k)
 
 module _ (ms : Catalogue) (new old : ℕ) (lawful : Lawful ms) where
   abbrev answer_by : Bool → Bool → Bool → Result Compared CompareFault
@@ -180,16 +175,16 @@ module _ (ms : Catalogue) (new old : ℕ) (lawful : Lawful ms) where
           refused e
           (full_on f g (starts N O ∷ []) (rows N O) e (subst (λ (xs : List Pair). Full f g xs e) first_pair k) (explored_begins N O most_rows 0 (starts N O ∷ [])))
 
-      pub explored_rows : (h : Filled) → Grew f g (added (pairs_in f) (pair p q ∷ [])) → Grew g h (explored N O most_rows 0 (pairs_in g)) → Grew f h (rows N O)
+      explored_rows : (h : Filled) → Grew f g (added (pairs_in f) (pair p q ∷ [])) → Grew g h (explored N O most_rows 0 (pairs_in g)) → Grew f h (rows N O)
       explored_rows h k a = grew_on f g h _ (rows N O) k (grew_is g h _ (rows N O) a (rows_are k))
 
-    pub refused_later : (f g h : Filled) → f.count ≡ 0 → (e : CompareFault)
+    refused_later : (f g h : Filled) → f.count ≡ 0 → (e : CompareFault)
         → Grew f g (added (pairs_in f) (pair p q ∷ [])) → Full g h (explored N O most_rows 0 (pairs_in g)) e → Compares ms new old f.rows.now h.rows.now (Err e)
     refused_later f g h none e k u =
         refused f h none e (full_back f g h (rows N O) _ e k (subst (λ (xs : List Pair). Full g h xs e) (rows_are f g none k) u))
 
     -- the pairs of the first rows are there
-    pub fair_rows : (f g : Filled) → f.count ≡ 0 → Grew f g (rows N O) → Fair N O (pairs_in g) g.rows.now g.count
+    fair_rows : (f g : Filled) → f.count ≡ 0 → Grew f g (rows N O) → Fair N O (pairs_in g) g.rows.now g.count
     fair_rows f g none k = fair_start N O g.rows.now g.count g.indexed.within (k.unranked (λ j l. absurd (omega arith)))
 
     pub some_row : (f g : Filled) → Grew f g (rows N O) → 1 ≤ g.count
@@ -205,7 +200,7 @@ module _ (ms : Catalogue) (new old : ℕ) (lawful : Lawful ms) where
         let w : g.count ≤ length t = omega (arith, long_alike g.rows.now t g.count a, g.indexed.within) in
         sym (pair_at g.count t 0 (some_row f g k) w) ∙ ap (λ (xs : List Pair). get_or xs 0 (pair 0 0)) (pairs_alike g.rows.now t g.count a ∙ k.rows ∙ b.1)
 
-    pub accepted : (f g : Filled) (t₃ : List PairRow) → Grew f g (rows N O) → Alike g.rows.now t₃ g.count
+    accepted : (f g : Filled) (t₃ : List PairRow) → Grew f g (rows N O) → Alike g.rows.now t₃ g.count
         → ((i : ℕ) → i < g.count → (row t₃ i).rank ≡ rank N O (pairs_in g) (pair_of (row t₃ i)))
         → Compares ms new old f.rows.now t₃ (Ok (record { pairs = g.count; rank = (row t₃ 0).rank }))
     unfolding pair_count first_rank
@@ -232,3 +227,44 @@ module _ (ms : Catalogue) (new old : ℕ) (lawful : Lawful ms) where
           ordered = ordered ms lawful;
           worked = worked;
         }
+
+-- ── the two modules as they are held ──
+
+of_sides : (P : Module → Module → Type 0) (s : Sides) (n o : Module) → s.new ≡ n → s.old ≡ o → P s.new s.old → P n o
+of_sides P s n o en eo k = subst (λ (x : Module). P x o) en (subst (λ (y : Module). P s.new y) eo k)
+
+-- what is known once the pair of starts is there: the rows before and after it, and the modules
+pub record Begun (ms : Catalogue) (new old : ℕ) (f g : Filled) (s : Sides) : Type 0 where
+  pub lawful : Lawful ms
+  pub p : ℕ
+  pub q : ℕ
+  pub new_start : Some p ≡ option_map start_of (nth ms new)
+  pub old_start : Some q ≡ option_map start_of (nth ms old)
+  pub none : f.count ≡ 0
+  pub is_new : s.new ≡ module_in ms new
+  pub is_old : s.old ≡ module_in ms old
+  pub grew : Grew f g (added (pairs_in f) (pair p q ∷ []))
+
+module _ (ms : Catalogue) (new old : ℕ) (f g : Filled) (s : Sides) (b : Begun ms new old f g s) where
+  all_rows : (h : Filled) → Grew g h (explored s.new s.old most_rows 0 (pairs_in g)) → Grew f h (rows (module_in ms new) (module_in ms old))
+  all_rows h k =
+      explored_rows ms new old b.lawful b.p b.q b.new_start b.old_start f g b.none h b.grew
+      (of_sides (λ n o. Grew g h (explored n o most_rows 0 (pairs_in g))) s _ _ b.is_new b.is_old k)
+
+  pub explored_full : (h : Filled) (e : CompareFault) → Full g h (explored s.new s.old most_rows 0 (pairs_in g)) e → Compares ms new old f.rows.now h.rows.now (Err e)
+  explored_full h e u =
+      refused_later ms new old b.lawful b.p b.q b.new_start b.old_start f g h b.none e b.grew
+      (of_sides (λ n o. Full g h (explored n o most_rows 0 (pairs_in g)) e) s _ _ b.is_new b.is_old u)
+
+  pub explored_fair : (h : Filled) → Grew g h (explored s.new s.old most_rows 0 (pairs_in g)) → Fair s.new s.old (pairs_in h) h.rows.now h.count
+  explored_fair h k =
+      of_sides (λ n o. Fair n o (pairs_in h) h.rows.now h.count) (record { new = module_in ms new; old = module_in ms old }) _ _ (sym b.is_new) (sym b.is_old)
+      (fair_rows ms new old b.lawful b.p b.q b.new_start b.old_start f h b.none (all_rows h k))
+
+  pub settled_rows : (h : Filled) (t : List PairRow) (n : ℕ) → Grew g h (explored s.new s.old most_rows 0 (pairs_in g)) → Alike h.rows.now t h.count → n ≡ h.count
+      → ((i : ℕ) → i < h.count → (row t i).rank ≡ rank s.new s.old (pairs_in h) (pair_of (row t i)))
+      → Compares ms new old f.rows.now t (Ok (record { pairs = n; rank = (row t 0).rank }))
+  settled_rows h t n k a en ranked =
+      subst (λ (m : ℕ). Compares ms new old f.rows.now t (Ok (record { pairs = m; rank = (row t 0).rank }))) (sym en)
+      (accepted ms new old b.lawful b.p b.q b.new_start b.old_start f h t (all_rows h k) a
+      (of_sides (λ n o. (i : ℕ) → i < h.count → (row t i).rank ≡ rank n o (pairs_in h) (pair_of (row t i))) s _ _ b.is_new b.is_old ranked))
