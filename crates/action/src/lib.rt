@@ -4,5 +4,5 @@
 mod number;
 mod set;
 
-pub use number::{is_action, opposite};
+pub use number::{LAST_PORT, is_action, opposite};
 pub use set::{ActionSet, Actions};

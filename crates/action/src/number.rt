@@ -2,11 +2,14 @@
 ghost use Rattle.std.specs.Prelude.{◌≡◌};
 ghost use Rattle.action.specs.Action.{is_action, opposite as opposite_of};
 
+// The ports are 1 to this. An action is a number with a sign and no enum, since lent rows and the bytes of tables hold it so.
+pub const LAST_PORT: i8 = 31;
+
 // Whether a number is an action.
 pub fn is_action(number: i8) -> bool
     ensures { result ≡ is_action number }
 {
-    (-31..=31).contains(&number)
+    (-LAST_PORT..=LAST_PORT).contains(&number)
 }
 
 // The action that meets this one. The internal event has none, and neither has what is no action.
