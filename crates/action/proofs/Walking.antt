@@ -38,14 +38,6 @@ from_end s k h = ap (λ (n : ℕ). kept (has s) (rising n k)) none
     none : 63 - k ≡ 0
     none = omega arith
 
--- the action of a bit, as the code counts it
-pub counted : (k : ℕ) → k < 63 → pos k -ℤ pos 31 ≡ signed k
-counted k h = go (leb 31 k) refl
-  where
-    go : (b : Bool) → leb 31 k ≡ b → pos k -ℤ pos 31 ≡ elim b [ true ↦ pos (k - 31) | false ↦ negsuc (30 - k) ]
-    go true e = let l = leb-true 31 k e in omega (arith, ints)
-    go false e = let l = leb-false 31 k e in omega (arith, ints)
-
 -- what is not held is passed over, up to a bit; up to the end
 pub skipped : (s : ActionSet) (n k : ℕ) → k + n ≤ 63 → ((i : ℕ) → k ≤ i → i < k + n → has s (signed i) ≡ false) → from s k ≡ from s (k + n)
 skipped s zero k b f = ap (from s) (omega arith)

@@ -5,7 +5,7 @@ ghost use Rattle.std.specs.Prelude.{◌≡◌, IfOk, string_bytes};
 ghost use Rattle.inspection.specs.Inspected.{inspected};
 
 use maker_table::Table;
-use report::{LONGEST_FILE, catalogue_text, fault_text, long_text};
+use report::{LONGEST_FILE, catalogue_text, long_text, refused_text};
 use std::alloc::{AllocError, Global};
 use table_format::TableFault;
 
@@ -22,6 +22,6 @@ pub fn inspect_table(heap: Global, file: Vec<u8>) -> Result<String, AllocError>
     match Table::take(heap, file) {
         Ok(table) => catalogue_text(heap, FILE_NAME, &table),
         Err(fault) if fault == TableFault::NoMemory => Err(AllocError),
-        Err(fault) => fault_text(heap, FILE_NAME, &fault),
+        Err(fault) => refused_text(heap, FILE_NAME, &fault),
     }
 }

@@ -176,19 +176,6 @@ to_come set rest a = has set a || any (λ p. same (pos p) a) rest
 abbrev in_ports : List ℕ → ℤ → Bool
 in_ports ps a = any (λ p. same (pos p) a) ps
 
-pub port_taken : (set more : ActionSet) (ps : List ℕ) (i p : ℕ) → i < length ps → get_or ps i 0 ≡ p → p ≤ last_port → ((a : ℤ) → has more a ≡ (has set a || (is_action (pos p) && same (pos p) a))) → (a : ℤ) → to_come more (drop (i + 1) ps) a ≡ to_come set (drop i ps) a
-port_taken set more ps i p l e near h a =
-    ap (λ b. b || rest) (h a ∙ ap (λ b. has set a || (b && same (pos p) a)) (le-leb p last_port near))
-    ∙ joined (has set a) (same (pos p) a) rest
-    ∙ ap (λ b. has set a || b) (ap (λ q. same (pos q) a || rest) (sym e) ∙ sym (at_drop_more (λ qs. in_ports qs a) ps i 0 l))
-  where
-    rest : Bool
-    rest = in_ports (drop (i + 1) ps) a
-
-    joined : (x y z : Bool) → ((x || y) || z) ≡ (x || (y || z))
-    joined true y z = refl
-    joined false y z = refl
-
 pub ports_taken : (set : ActionSet) (ps : List ℕ) → all is_port ps ≡ true → ((a : ℤ) → to_come set [] a ≡ in_ports ps a) → set ≡ ports ps
 ports_taken set ps good h = set_ext set (ports ps) (λ a. both_true (has set a) (has (ports ps) a) (there a) (back a))
   where
@@ -213,9 +200,3 @@ ports_open ps good = elim (cases_Bool (has (ports ps) internal)) [ inl t ↦ abs
         let z : q.0 ≡ 0 = ap nat_abs (same_eq (pos q.0) internal q.2) in
         let o = r.0 in
         omega arith
-
-pub port_passes : (ps : List ℕ) (i : ℕ) → i < length ps → 1 ≤ get_or ps i 0 → get_or ps i 0 ≤ last_port → all is_port (drop i ps) ≡ all is_port (drop (i + 1) ps)
-port_passes ps i l low high = at_drop_more (all is_port) ps i 0 l ∙ ap (λ b. b && all is_port (drop (i + 1) ps)) (and_from (leb 1 (get_or ps i 0)) (leb (get_or ps i 0) last_port) (le-leb 1 (get_or ps i 0) low) (le-leb (get_or ps i 0) last_port high))
-
-pub port_stops : (ps : List ℕ) (i : ℕ) → i < length ps → (get_or ps i 0 < 1) ⊎ (last_port < get_or ps i 0) → all is_port (drop i ps) ≡ false
-port_stops ps i l h = at_drop_more (all is_port) ps i 0 l ∙ ap (λ b. b && all is_port (drop (i + 1) ps)) (elim h [ inl k ↦ and_left (leb 1 (get_or ps i 0)) (leb (get_or ps i 0) last_port) (lt-leb 1 (get_or ps i 0) k) | inr k ↦ and_right (leb 1 (get_or ps i 0)) (leb (get_or ps i 0) last_port) (lt-leb (get_or ps i 0) last_port k) ])

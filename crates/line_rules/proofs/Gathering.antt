@@ -80,14 +80,6 @@ met_else set next m a = plain (has set a) ∙ sym (ap (λ b. has set a || (b && 
     plain true = refl
     plain false = refl
 
--- nothing was gathered yet
-pub gathered_none : (ms : Catalogue) (l : Line) (s : List ℕ) (set : ActionSet) → ((a : ℤ) → has set a ≡ false) → Gathered ms l s 0 set
-gathered_none ms l s set h a = h a ∙ none (same a internal)
-  where
-    none : (b : Bool) → false ≡ (b && false)
-    none true = refl
-    none false = refl
-
 -- ── dropping what is hidden ──
 
 abbrev visible : Line → ℤ → Bool

@@ -17,13 +17,6 @@ pub at_every : (n : ℕ) (f : ℕ → Bool) → ((k : ℕ) → k < n → T (f k)
 at_every zero f h = tt
 at_every (suc n) f h = and_i (f n) (every n f) (h n (omega arith)) (at_every n f (λ k l. h k (omega arith)))
 
--- a loop over the slots: one more that passes, and one that does not
-pub every_more : (f : ℕ → Bool) (i : ℕ) → T (every i f) → f i ≡ true → T (every (i + 1) f)
-every_more f i h e = subst (λ k. T (every k f)) (sym (add-one i)) (and_i (f i) (every i f) (T_true (f i) e) h)
-
-pub every_not : (f : ℕ → Bool) (n i : ℕ) → i < n → f i ≡ false → every n f ≡ false
-every_not f n i l e = elim (cases_Bool (every n f)) [ inl t ↦ absurd (subst T e (every_at n f (T_true (every n f) t) i l)) | inr q ↦ q ]
-
 -- the list of f 0, f 1, .., f (n - 1)
 pub tabled : ℕ → (ℕ → ℕ) → List ℕ
 tabled zero f = []

@@ -56,7 +56,7 @@ pub struct TimeAnswer {
 }
 
 impl DrawFault {
-    // The number of the refusal. Each enum of refusals has such a table of its own; a trait of the eight would say no more of them.
+    // The number of the refusal. Each enum of refusals has such a table of its own, which a trait of them would only name again.
     pub fn number(self) -> u8
         ensures { result ≡ draw_number self }
     {
@@ -70,7 +70,7 @@ impl DrawFault {
 }
 
 impl SwapFault {
-    // The number of the refusal. Each enum of refusals has such a table of its own; a trait of the eight would say no more of them.
+    // The number of the refusal. Each enum of refusals has such a table of its own, which a trait of them would only name again.
     pub fn number(self) -> u8
         ensures { result ≡ swap_number self }
     {
@@ -83,7 +83,7 @@ impl SwapFault {
 }
 
 impl TimeFault {
-    // The number of the refusal. Each enum of refusals has such a table of its own; a trait of the eight would say no more of them.
+    // The number of the refusal. Each enum of refusals has such a table of its own, which a trait of them would only name again.
     pub fn number(self) -> u8
         ensures { result ≡ time_number self }
     {
@@ -143,7 +143,7 @@ impl fmt::Display for SwapFault {
         let number = self.number();
         match self {
             SwapFault::Slower(rank) => write!(f, "{number} {rank}"),
-            other => write!(f, "{}", other.number()),
+            SwapFault::UnknownSlot | SwapFault::Compare(_) => write!(f, "{number}"),
         }
     }
 }

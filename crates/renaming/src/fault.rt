@@ -17,7 +17,7 @@ pub enum RenamingFault {
 }
 
 impl RenamingFault {
-    // The number of the refusal. Each enum of refusals has such a table of its own; a trait of the eight would say no more of them.
+    // The number of the refusal. Each enum of refusals has such a table of its own, which a trait of them would only name again.
     pub fn number(self) -> u8
         ensures { result ≡ refusal_number self }
     {

@@ -12,7 +12,7 @@ use std::fmt;
 
 mod lines;
 
-pub use lines::{catalogue_text, fault_text, long_text};
+pub use lines::{catalogue_text, fault_text, long_text, refused_text};
 
 // An action, to be written as in a book: `?7`, `!7` or `i`.
 #[derive(Clone, Copy)]

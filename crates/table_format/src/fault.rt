@@ -47,8 +47,8 @@ impl From<AllocError> for TableFault {
 }
 
 impl TableFault {
-    // The number of the refusal; want of memory has none. Each enum of refusals has such a table of its own; a trait of the
-    // eight would say no more of them.
+    // The number of the refusal; want of memory has none. Each enum of refusals has such a table of its own, which a trait of
+    // them would only name again.
     pub fn number(self) -> Option<u8>
         ensures { result ≡ refusal_number self }
     {

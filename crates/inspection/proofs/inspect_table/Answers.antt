@@ -18,5 +18,5 @@ returns-in-Ok c =
 
 pub returns-in-Err-2 : goal.returns-in-Err-2
 returns-in-Err-2 c =
-    made_as c.fault_text.result (refused_line file_name (table_fault_text c.in-Err.fault)) (inspected (vec_items c.args.file))
-    (fault_shown (vec_items c.args.file) c.in-Err.fault (omega (arith, c.args.file.ok.0)) (λ e. search rules) c.in-Err.ensures.answer) c.fault_text.ensures
+    made_as c.refused_text.result (refused_line file_name (table_fault_text c.in-Err.fault)) (inspected (vec_items c.args.file))
+    (fault_shown (vec_items c.args.file) c.in-Err.fault (omega (arith, c.args.file.ok.0)) (λ e. search rules) c.in-Err.ensures.answer) c.refused_text.ensures

@@ -1,7 +1,7 @@
 // The lines that tell of a file: what it means, or why it is refused.
 ghost use Rattle.std.specs.Prelude.{◌≡◌, IfOk, IfSome, string_bytes};
 ghost use Rattle.catalogue.specs.Catalogue.{module_in, state_in};
-ghost use Rattle.report.specs.Text.{state_line, module_lines, catalogue_lines, refused_line, long_line};
+ghost use Rattle.report.specs.Text.{state_line, module_lines, catalogue_lines, fault_line, refused_line, long_line};
 ghost use Rattle.report.specs.Adding.{Added};
 
 use super::{TickText, add_moves, add_urgent};
@@ -68,8 +68,19 @@ pub fn catalogue_text<C: Catalogue>(
     Ok(out)
 }
 
-// Why a file is refused, under its name.
-pub fn fault_text<E: fmt::Display>(heap: Global, name: &str, why: &E) -> Result<String, AllocError>
+// Why a file is refused, under its name: the number of the refusal, and its place in the file.
+pub fn fault_text(heap: Global, name: &str, number: u8, place: usize) -> Result<String, AllocError>
+    ensures { IfOk result (λ s. string_bytes s ≡ fault_line name.now number place) }
+{
+    format!(in heap; "{name} {number} {place}\n")
+}
+
+// Why a file is refused, under its name, by what prints as the reason.
+pub fn refused_text<E: fmt::Display>(
+    heap: Global,
+    name: &str,
+    why: &E,
+) -> Result<String, AllocError>
     ensures { IfOk result (λ s. IfSome (E.output why.now) (λ t. string_bytes s ≡ refused_line name.now t)) }
 {
     format!(in heap; "{name} {why}\n")
