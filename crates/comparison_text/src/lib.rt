@@ -12,7 +12,7 @@ use compare::compare;
 use pair_table::{CompareFault, Compared, MOST_ROWS, PairRow};
 use std::alloc::{AllocError, Global};
 
-// The line of a comparison.
+// The line of a comparison. Its two cases would be no plainer in a type of their own that prints itself.
 fn add_answer(
     out: &mut String,
     new: usize,

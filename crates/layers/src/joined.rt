@@ -45,7 +45,8 @@ impl<A: Catalogue, B: Catalogue> Joined<A, B> {
     }
 }
 
-// The questions stand one by one: the two catalogues have different types, so a function for all would take two closures for each.
+// The questions stand one by one: the two catalogues have different types, so a function for all would take two closures
+// for each.
 impl<A: Catalogue, B: Catalogue> Catalogue for Joined<A, B> {
     ghost meaning = { joined_meaning A.Catalogue.meaning B.Catalogue.meaning };
 

@@ -18,22 +18,18 @@ use comparison_text::{comparison_text, comparisons_text};
 use layers::Joined;
 use maker_table::Table;
 use report::LONGEST_FILE;
-use rows::{ModuleRow, Place};
+pub use report::{BOOK_NAME, TABLE_NAME};
+use rows::{MOST_MODULES, ModuleRow, Place};
 use std::alloc::{AllocError, Global};
 use std::error::Error;
 use std::fmt;
 use swaps_text::swaps_text;
 use table_format::TableFault;
 
-// The files that are read, the book first.
-pub const BOOK_NAME: &str = "book.txt";
-
-pub const TABLE_NAME: &str = "maker.tab";
-
-// The rows that a book is read into.
+// How many rows there are to read a book into: for modules as many as a book may have.
 const PLACE_ROWS: usize = 4096;
 
-const MODULE_ROWS: usize = 64;
+const MODULE_ROWS: usize = MOST_MODULES;
 
 // What can be wrong with the files. The first file at fault is told.
 #[derive(Clone, Copy, Debug, PartialEq, Eq)]

@@ -11,8 +11,8 @@ use std::fmt;
 // The most rows of a table that are ever filled.
 pub const MOST_ROWS: usize = 32_768;
 
-// A pair of a new and an old state, and the first round that drops it: 0 where none does, the number that is printed, and so
-// that lent rows are three numbers.
+// A pair of a new and an old state, and the first round that drops it. Where none does that is 0 and no Option: the number is
+// printed, and the lent rows are plain numbers.
 #[derive(Clone, Copy, Debug, Default, PartialEq, Eq)]
 pub struct PairRow {
     pub new: u32,

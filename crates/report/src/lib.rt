@@ -7,3 +7,8 @@ pub use words::{ActionText, catalogue_text, fault_text, long_text, refused_text}
 
 // A file may have this many bytes.
 pub const LONGEST_FILE: usize = 65_536;
+
+// The files that the programs read.
+pub const BOOK_NAME: &str = "book.txt";
+
+pub const TABLE_NAME: &str = "maker.tab";

@@ -19,7 +19,7 @@ use std::alloc::{AllocError, Global};
 // The rows of the table that each swap is tried with.
 const TABLE_ROWS: usize = 4096;
 
-// The line of a swap.
+// The line of a swap. Its two cases would be no plainer in a type of their own that prints itself.
 fn add_trial(
     out: &mut String,
     slot: usize,

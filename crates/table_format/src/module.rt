@@ -1,4 +1,4 @@
-// A module in a table's bytes whose head was tried, and the trying of its states.
+// A module in a table's bytes whose head was tried.
 ghost use Rattle.std.specs.Prelude.{◌≡◌, ◌+◌, ◌≤◌, length};
 ghost use Rattle.table_format.specs.Reading.{after, codes_at};
 

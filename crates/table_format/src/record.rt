@@ -1,4 +1,5 @@
-// The record of a state, as it lies in a table's bytes: its length, its tick, how many moves it has, and four bytes for each of them.
+// The record of a state, as it lies in a table's bytes: its length, its tick, how many moves it has, and four bytes for each
+// of them.
 ghost use Rattle.std.specs.Prelude.{◌≡◌, ◌+◌};
 ghost use Rattle.table_format.specs.Numbers.{byte, pair};
 ghost use Rattle.table_format.specs.Reading.{entries, tick_of, Whole};
@@ -14,7 +15,7 @@ pub struct StateRecord<'a> {
 }
 
 impl<'a> StateRecord<'a> {
-    // The code that a tick leads to.
+    // The code that a tick leads to. The two bytes are there, so no Option is asked for as by `pair_at`.
     pub fn tick(self) -> Option<u16>
         ensures { result ≡ tick_of (pair self.entry.bytes.now (self.entry.at + 2)) }
     {

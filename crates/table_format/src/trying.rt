@@ -1,4 +1,5 @@
-// The fields of a table, tried in order: each function tells the first fault of its part. Nothing is stored, so a table is refused without any memory.
+// The fields of a table, tried in order: each function tells the first fault of its part. Nothing is stored, so a table is
+// refused without any memory.
 ghost use Rattle.std.specs.Prelude.{◌≡◌, ◌+◌, ◌*◌, ◌<◌, ◌≤◌, length};
 ghost use Rattle.std.specs.List.{list_any};
 ghost use Rattle.table_format.specs.Numbers.{byte, pair, byte_action};
@@ -56,7 +57,7 @@ fn marks_internal(entry: &[u8; 4]) -> bool
     *mark == 1 && *action == 0
 }
 
-// Whether some move is.
+// Whether some move is internal and marked urgent.
 fn internal_marked(moves: &[[u8; 4]]) -> bool
     ensures { result ≡ list_any marks_internal moves.now }
 {
