@@ -68,7 +68,8 @@ pub fn catalogue_text<C: Catalogue>(
     Ok(out)
 }
 
-// Why a file is refused, under its name: the number of the refusal, and its place in the file.
+// Why a file is refused, under its name: the number of the refusal, and its place in the file. It stays as callers know it; the
+// programs print faults by `refused_text`.
 pub fn fault_text(heap: Global, name: &str, number: u8, place: usize) -> Result<String, AllocError>
     ensures { IfOk result (λ s. string_bytes s ≡ fault_line name.now number place) }
 {
