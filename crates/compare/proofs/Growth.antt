@@ -32,7 +32,7 @@ not_same a b n = elim (cases_Bool (same a b)) [ inl t ↦ absurd (n (same_eq a b
 
 grew_same : (f : Filled) (p q i : ℕ) → i < f.count → Is f.rows.now i p q → Grew f f (added (pairs_in f) (pair p q ∷ []))
 grew_same f p q i l e =
-    record { unranked = λ u. u; more = omega arith; long = refl; rows = sym (one_more_there (pairs_in f) (pair p q) (there f.count f.rows.now i p q l f.indexed.within e)); rest = refl }
+    record { same_reference = refl; unranked = λ u. u; more = omega arith; long = refl; rows = sym (one_more_there (pairs_in f) (pair p q) (there f.count f.rows.now i p q l f.indexed.within e)); rest = refl }
 
 -- what `find` tells
 pub found : (f : Filled) (p q : ℕ) (r : Option ℕ) → is_some r ≡ true → MatchOption r (Absent f.rows.now f.count p q) (λ i. (i < f.count) × Is f.rows.now i p q)
@@ -58,10 +58,11 @@ modest_more rows n p q l h j m = elim (cases_eq j n) [
 ]
 
 pub grew_more : (f g : Filled) (p q : ℕ) → f.count < length f.rows.now → Absent f.rows.now f.count p q
-    → g.rows.now ≡ set f.rows.now f.count (fresh p q) → g.count ≡ f.count + 1 → Grew f g (added (pairs_in f) (pair p q ∷ []))
-grew_more f g p q l h e c =
+    → g.rows.ghost_name ≡ f.rows.ghost_name → g.rows.now ≡ set f.rows.now f.count (fresh p q) → g.count ≡ f.count + 1 → Grew f g (added (pairs_in f) (pair p q ∷ []))
+grew_more f g p q l h s e c =
     let n : ℕ = f.count in
     record {
+      same_reference = s;
       unranked = λ u. subst (λ (t : List PairRow). Unranked t g.count) (sym e) (subst (λ (m : ℕ). Unranked (set f.rows.now n (fresh p q)) m) (sym c) (unranked_more f.rows.now n p q l u));
       more = omega arith;
       long = ap length e ∙ length-set f.rows.now n (fresh p q);
@@ -76,6 +77,7 @@ full_now f p q h c =
     let m : room_of f ≡ f.count = omega (arith, f.indexed.within, f.indexed.few) in
     let size : length (pairs_in f) ≡ f.count = length_pairs f.count t f.indexed.within in
     record {
+      same_reference = refl;
       why = refl;
       over = omega (arith, ap length w, length-append (pairs_in f) (pair p q ∷ []));
       unranked = λ u j l. u j (omega arith);
@@ -94,11 +96,12 @@ rest_on xs ys n m l e =
 
 -- the wanted rows under another name
 pub grew_is : (f g : Filled) (w v : List Pair) → Grew f g w → w ≡ v → Grew f g v
-grew_is f g w v a e = record { unranked = a.unranked; more = a.more; long = a.long; rows = a.rows ∙ e; rest = a.rest }
+grew_is f g w v a e = record { same_reference = a.same_reference; unranked = a.unranked; more = a.more; long = a.long; rows = a.rows ∙ e; rest = a.rest }
 
 pub grew_on : (f g h : Filled) (w v : List Pair) → Grew f g w → Grew g h v → Grew f h v
 grew_on f g h w v a b =
     record {
+      same_reference = b.same_reference ∙ a.same_reference;
       unranked = λ u. b.unranked (a.unranked u);
       more = omega (arith, a.more, b.more);
       long = b.long ∙ a.long;
@@ -111,6 +114,7 @@ pub full_on : (f g : Filled) (w x : List Pair) (e : CompareFault) → Full f g w
 full_on f g w x e k b =
     let size : length x ≡ length w + length b.0 = ap length b.1 ∙ length-append w b.0 in
     record {
+      same_reference = k.same_reference;
       why = k.why;
       over = omega (arith, k.over);
       unranked = k.unranked;
@@ -124,6 +128,7 @@ pub full_back : (f g h : Filled) (w v : List Pair) (e : CompareFault) → Grew f
 full_back f g h w v e a k =
     let c : room_of g ≡ room_of f = ap room a.long in
     record {
+      same_reference = k.same_reference ∙ a.same_reference;
       why = k.why;
       over = omega (arith, k.over, c);
       unranked = λ u. subst (λ (m : ℕ). Unranked h.rows.now m) c (k.unranked (a.unranked u));

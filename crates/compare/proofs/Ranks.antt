@@ -15,8 +15,8 @@ use Rattle.pair_table.specs.Laws.{row}
 use Rattle.pair_table.proofs.Clause.{among_in, in_among}
 use Rattle.pair_table.proofs.Rounds.{falls_to, round_none, none_round, round_more, round_kept, kept_clauses, clauses_kept}
 use Rattle.pair_table.proofs.Ranks.{rank_kept, rank_dropped}
-use Rattle.compare.specs.declared.modules.Side.{Side}
-use Rattle.compare.specs.declared.modules.Side.TheVariants.{New, Old}
+use Rattle.compare.specs.declared.ranking.Side.{Side}
+use Rattle.compare.specs.declared.ranking.Side.TheVariants.{New, Old}
 use Rattle.compare.specs.Rows.{Is, pair_of, pairs_of}
 use Rattle.compare.specs.Indexed.{Apart}
 use Rattle.compare.specs.Ranks.{PartnerBy, Partner, Modest, Lasts, Leaves, Sooner, Holds, Gone, GoneOne, TickHolds, TickGone, Steady, Fails, Judged, JudgedAll, JudgedTick, JudgedRow, Fair}

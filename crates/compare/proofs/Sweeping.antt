@@ -11,8 +11,8 @@ use Rattle.pair_table.specs.Pairs.{Pair, pair, most_rows}
 use Rattle.pair_table.specs.Rounds.{round, rank}
 use Rattle.pair_table.specs.Laws.{row}
 use Rattle.compare.specs.declared.index.Index.{Index}
-use Rattle.compare.specs.declared.modules.Side.{Side}
-use Rattle.compare.specs.declared.modules.Side.TheVariants.{New, Old}
+use Rattle.compare.specs.declared.ranking.Side.{Side}
+use Rattle.compare.specs.declared.ranking.Side.TheVariants.{New, Old}
 use Rattle.compare.specs.Rows.{pair_of, pairs_of}
 use Rattle.compare.specs.Indexed.{Indexed, Last, bucket_of, row_bucket}
 use Rattle.compare.specs.Growth.{Unranked}
@@ -51,9 +51,6 @@ indexed_alike index t u n a k =
       few = k.few;
       apart = λ i j li lj en eo. k.apart i j li lj (sym (new i) ∙ en ∙ new j) (sym (old i) ∙ eo ∙ old j);
     }
-
-pub alike_none : (t : List PairRow) (n : ℕ) → Alike t t n
-alike_none t n = record { pairs = refl; rest = refl }
 
 pub alike_on : (t u v : List PairRow) (n : ℕ) → Alike t u n → Alike u v n → Alike t v n
 alike_on t u v n a b = record { pairs = b.pairs ∙ a.pairs; rest = b.rest ∙ a.rest }

@@ -21,7 +21,6 @@ use Rattle.pair_table.proofs.Worked.{worked}
 use Rattle.compare.specs.declared.filled.Filled.{Filled}
 use Rattle.compare.specs.Rows.{pair_of, pairs_of}
 use Rattle.compare.specs.Growth.{Grew, Full, Unranked, pairs_in}
-use Rattle.compare.specs.Sides.{Sides}
 use Rattle.compare.specs.Ranks.{Alike, Fair}
 use Rattle.compare.proofs.Rows.{rows_laid, length_pairs, pair_at}
 use Rattle.compare.proofs.Growth.{grew_on, grew_is, full_on, full_back}
@@ -230,41 +229,41 @@ module _ (ms : Catalogue) (new old : ℕ) (lawful : Lawful ms) where
 
 -- ── the two modules as they are held ──
 
-of_sides : (P : Module → Module → Type 0) (s : Sides) (n o : Module) → s.new ≡ n → s.old ≡ o → P s.new s.old → P n o
-of_sides P s n o en eo k = subst (λ (x : Module). P x o) en (subst (λ (y : Module). P s.new y) eo k)
+of_sides : (P : Module → Module → Type 0) (s o s' o' : Module) → s ≡ s' → o ≡ o' → P s o → P s' o'
+of_sides P s o s' o' en eo k = subst (λ (x : Module). P x o') en (subst (λ (y : Module). P s y) eo k)
 
 -- what is known once the pair of starts is there: the rows before and after it, and the modules
-pub record Begun (ms : Catalogue) (new old : ℕ) (f g : Filled) (s : Sides) : Type 0 where
+pub record Begun (ms : Catalogue) (new old : ℕ) (f g : Filled) (s o : Module) : Type 0 where
   pub lawful : Lawful ms
   pub p : ℕ
   pub q : ℕ
   pub new_start : Some p ≡ option_map start_of (nth ms new)
   pub old_start : Some q ≡ option_map start_of (nth ms old)
   pub none : f.count ≡ 0
-  pub is_new : s.new ≡ module_in ms new
-  pub is_old : s.old ≡ module_in ms old
+  pub is_new : s ≡ module_in ms new
+  pub is_old : o ≡ module_in ms old
   pub grew : Grew f g (added (pairs_in f) (pair p q ∷ []))
 
-module _ (ms : Catalogue) (new old : ℕ) (f g : Filled) (s : Sides) (b : Begun ms new old f g s) where
-  all_rows : (h : Filled) → Grew g h (explored s.new s.old most_rows 0 (pairs_in g)) → Grew f h (rows (module_in ms new) (module_in ms old))
+module _ (ms : Catalogue) (new old : ℕ) (f g : Filled) (s o : Module) (b : Begun ms new old f g s o) where
+  all_rows : (h : Filled) → Grew g h (explored s o most_rows 0 (pairs_in g)) → Grew f h (rows (module_in ms new) (module_in ms old))
   all_rows h k =
       explored_rows ms new old b.lawful b.p b.q b.new_start b.old_start f g b.none h b.grew
-      (of_sides (λ n o. Grew g h (explored n o most_rows 0 (pairs_in g))) s _ _ b.is_new b.is_old k)
+      (of_sides (λ n m. Grew g h (explored n m most_rows 0 (pairs_in g))) s o _ _ b.is_new b.is_old k)
 
-  pub explored_full : (h : Filled) (e : CompareFault) → Full g h (explored s.new s.old most_rows 0 (pairs_in g)) e → Compares ms new old f.rows.now h.rows.now (Err e)
+  pub explored_full : (h : Filled) (e : CompareFault) → Full g h (explored s o most_rows 0 (pairs_in g)) e → Compares ms new old f.rows.now h.rows.now (Err e)
   explored_full h e u =
       refused_later ms new old b.lawful b.p b.q b.new_start b.old_start f g h b.none e b.grew
-      (of_sides (λ n o. Full g h (explored n o most_rows 0 (pairs_in g)) e) s _ _ b.is_new b.is_old u)
+      (of_sides (λ n m. Full g h (explored n m most_rows 0 (pairs_in g)) e) s o _ _ b.is_new b.is_old u)
 
-  pub explored_fair : (h : Filled) → Grew g h (explored s.new s.old most_rows 0 (pairs_in g)) → Fair s.new s.old (pairs_in h) h.rows.now h.count
+  pub explored_fair : (h : Filled) → Grew g h (explored s o most_rows 0 (pairs_in g)) → Fair s o (pairs_in h) h.rows.now h.count
   explored_fair h k =
-      of_sides (λ n o. Fair n o (pairs_in h) h.rows.now h.count) (record { new = module_in ms new; old = module_in ms old }) _ _ (sym b.is_new) (sym b.is_old)
+      of_sides (λ n m. Fair n m (pairs_in h) h.rows.now h.count) (module_in ms new) (module_in ms old) _ _ (sym b.is_new) (sym b.is_old)
       (fair_rows ms new old b.lawful b.p b.q b.new_start b.old_start f h b.none (all_rows h k))
 
-  pub settled_rows : (h : Filled) (t : List PairRow) (n : ℕ) → Grew g h (explored s.new s.old most_rows 0 (pairs_in g)) → Alike h.rows.now t h.count → n ≡ h.count
-      → ((i : ℕ) → i < h.count → (row t i).rank ≡ rank s.new s.old (pairs_in h) (pair_of (row t i)))
+  pub settled_rows : (h : Filled) (t : List PairRow) (n : ℕ) → Grew g h (explored s o most_rows 0 (pairs_in g)) → Alike h.rows.now t h.count → n ≡ h.count
+      → ((i : ℕ) → i < h.count → (row t i).rank ≡ rank s o (pairs_in h) (pair_of (row t i)))
       → Compares ms new old f.rows.now t (Ok (record { pairs = n; rank = (row t 0).rank }))
   settled_rows h t n k a en ranked =
       subst (λ (m : ℕ). Compares ms new old f.rows.now t (Ok (record { pairs = m; rank = (row t 0).rank }))) (sym en)
       (accepted ms new old b.lawful b.p b.q b.new_start b.old_start f h t (all_rows h k) a
-      (of_sides (λ n o. (i : ℕ) → i < h.count → (row t i).rank ≡ rank n o (pairs_in h) (pair_of (row t i))) s _ _ b.is_new b.is_old ranked))
+      (of_sides (λ n m. (i : ℕ) → i < h.count → (row t i).rank ≡ rank n m (pairs_in h) (pair_of (row t i))) s o _ _ b.is_new b.is_old ranked))

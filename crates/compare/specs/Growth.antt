@@ -23,6 +23,7 @@ Unranked rows n = (j : ℕ) → j < n → (row rows j).rank ≡ 0
 
 -- the filled rows hold the wanted pairs, and the others are as they were
 pub record Grew (before after : Filled) (wanted : List Pair) : Type 0 where
+  pub same_reference : after.rows.ghost_name ≡ before.rows.ghost_name
   pub unranked : Unranked before.rows.now before.count → Unranked after.rows.now after.count
   pub more : before.count ≤ after.count
   pub long : length after.rows.now ≡ length before.rows.now
@@ -31,6 +32,7 @@ pub record Grew (before after : Filled) (wanted : List Pair) : Type 0 where
 
 -- the wanted pairs pass the table, whose first rows hold the first of them
 pub record Full (before after : Filled) (wanted : List Pair) (e : CompareFault) : Type 0 where
+  pub same_reference : after.rows.ghost_name ≡ before.rows.ghost_name
   pub why : e ≡ TableTooSmall
   pub over : room_of before < length wanted
   pub unranked : Unranked before.rows.now before.count → Unranked after.rows.now (room_of before)

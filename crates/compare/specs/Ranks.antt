@@ -9,8 +9,8 @@ use Rattle.pair_table.specs.declared.PairRow.{PairRow}
 use Rattle.pair_table.specs.Pairs.{Pair}
 use Rattle.pair_table.specs.Rounds.{round}
 use Rattle.pair_table.specs.Laws.{row}
-use Rattle.compare.specs.declared.modules.Side.{Side}
-use Rattle.compare.specs.declared.modules.Side.TheVariants.{New, Old}
+use Rattle.compare.specs.declared.ranking.Side.{Side}
+use Rattle.compare.specs.declared.ranking.Side.TheVariants.{New, Old}
 use Rattle.compare.specs.Rows.{Is, pair_of, pairs_of}
 use Rattle.compare.specs.Sides.{new_target, old_target}
 

@@ -1,10 +1,10 @@
 // The rows of a table that are filled so far, with the index of their pairs.
-ghost use Rattle.std.specs.Prelude.{◌≡◌, ℕ, ◌<◌, MatchOption};
+ghost use Rattle.std.specs.Prelude.{◌≡◌, ◌<◌, MatchOption};
 ghost use Rattle.compare.specs.Rows.{Is, Absent};
 ghost use Rattle.compare.specs.Indexed.{Indexed};
 ghost use Rattle.compare.specs.Ranks.{Modest};
 
-use crate::index::Index;
+use crate::index::{Index, bucket, linked};
 use pair_table::PairRow;
 
 #[derive(Drop)]
@@ -36,6 +36,16 @@ impl<'a> Filled<'a> {
     pub(crate) fn find(&self, new: u32, old: u32) -> Option<usize>
         ensures { MatchOption result (Absent self.now.rows.now self.now.count new old) (λ i. (i < self.now.count) × Is self.now.rows.now i new old) }
     {
-        self.index.find(self.rows, self.count, new, old)
+        // A view of its own, since an array that lies behind two references cannot be read in place.
+        let index: &Index = self.index;
+        let mut link = index.heads[bucket(new, old)];
+        while let Some(row) = linked(link) {
+            let held = self.rows[row];
+            if held.new == new && held.old == old {
+                return Some(row);
+            }
+            link = index.next[row];
+        }
+        None
     }
 }

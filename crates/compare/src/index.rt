@@ -1,11 +1,10 @@
 // Where the rows stand, by the pairs that they hold.
-ghost use Rattle.std.specs.Prelude.{◌≡◌, ℕ, ◌+◌, ◌<◌, ◌≤◌, List, MatchOption, slice_index, slice_set};
+ghost use Rattle.std.specs.Prelude.{◌≡◌, ◌+◌, ◌<◌, List, slice_index, slice_set};
 ghost use Rattle.pair_table.specs.declared.PairRow.{PairRow};
 ghost use Rattle.pair_table.specs.Pairs.{most_rows};
-ghost use Rattle.compare.specs.Rows.{Is, Absent};
 ghost use Rattle.compare.specs.Indexed.{Indexed, bucket_of, row_at};
 
-use pair_table::{MOST_ROWS, PairRow};
+use pair_table::MOST_ROWS;
 
 // For each bucket the last row in it, and for each row the last one before it in the same bucket, each as one more than the
 // row's number, 0 where there is none. So a walk along a bucket falls, and ends. Arrays, since comparing asks for no memory, and
@@ -18,7 +17,7 @@ pub(crate) struct Index {
 }
 
 // The bucket of a pair: old states that are neighbours lie in neighbouring buckets.
-fn bucket(new: u32, old: u32) -> usize
+pub(crate) fn bucket(new: u32, old: u32) -> usize
     ensures is { result ≡ bucket_of new old }
     ensures bound { result < most_rows }
 {
@@ -26,7 +25,7 @@ fn bucket(new: u32, old: u32) -> usize
 }
 
 // The row that a link leads to.
-fn linked(link: u16) -> Option<usize>
+pub(crate) fn linked(link: u16) -> Option<usize>
     ensures { result ≡ row_at link }
 {
     link.checked_sub(1).map(usize::from)
@@ -41,21 +40,6 @@ impl Index {
             heads: [0; MOST_ROWS],
             next: [0; MOST_ROWS],
         }
-    }
-
-    // The row that holds a pair, among the first `count`: what `Filled` has together, which calls this alone.
-    pub(crate) fn find(&self, rows: &[PairRow], count: usize, new: u32, old: u32) -> Option<usize>
-        requires { Indexed self.now rows.now count }
-        ensures { MatchOption result (Absent rows.now count new old) (λ i. (i < count) × Is rows.now i new old) }
-    {
-        let mut link = self.heads[bucket(new, old)];
-        while let Some(row) = linked(link) {
-            if rows[row].new == new && rows[row].old == old {
-                return Some(row);
-            }
-            link = self.next[row];
-        }
-        None
     }
 
     // Links a row that holds a pair as the last in its bucket.

@@ -7,6 +7,7 @@ mod growing;
 mod index;
 mod modules;
 mod moves;
+mod part;
 mod ranking;
 mod settling;
 

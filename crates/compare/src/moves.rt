@@ -1,13 +1,14 @@
 // The moves of the two states of a pair, read into memory that is used again for each pair.
 ghost use Rattle.std.specs.Prelude.{◌≡◌, ◌≤◌, List, [], take};
 ghost use Rattle.catalogue.specs.declared.Move.{Move};
-ghost use Rattle.catalogue.specs.Catalogue.{most_moves, state_in};
+ghost use Rattle.catalogue.specs.Catalogue.{most_moves, state};
 
+use crate::part::Part;
 use catalogue::{Catalogue, MOST_MOVES, Move, Moves};
 use std::marker::Model;
 
-// The moves of a state, in their order. An `ArrayVec` blanks what it drops: with it the comparison of modules with one move a state
-// took 0.30 s in place of 0.25 s.
+// The moves of a state, in their order. An `ArrayVec` blanks what it drops: with it the comparison of modules with one move a
+// state took a fifth longer.
 #[derive(Drop)]
 pub(crate) struct MoveList {
     all: [Move; MOST_MOVES],
@@ -38,13 +39,13 @@ impl MoveList {
         &self.all[..self.count]
     }
 
-    // Takes in the moves of a state of a module, in place of those that it held.
-    pub(crate) fn read<C: Catalogue>(&mut self, catalogue: &C, part: usize, code: u32)
-        ensures { self.new ≡ (state_in (C.Catalogue.meaning catalogue.now) part code).moves }
+    // Takes in the moves of a state, in place of those that it held.
+    pub(crate) fn read<C: Catalogue>(&mut self, part: &Part<C>, code: u32)
+        ensures { self.new ≡ (state part.now code).moves }
     {
         // By number, since a walk over `iter_mut` tells nothing of what it writes.
         let mut count = 0;
-        for step in Moves::of(catalogue, part, code) {
+        for step in Moves::of(part.catalogue, part.number, code) {
             self.all[count] = step;
             count += 1;
         }
@@ -52,7 +53,8 @@ impl MoveList {
     }
 }
 
-// The moves of the two states of a pair. Apart from `Modules`, which are only read, so that no contract has to say that these stay.
+// The moves of the two states of a pair. Apart from `Modules`, which are only read, so that no contract has to say that these
+// stay.
 #[derive(Drop)]
 pub(crate) struct PairMoves {
     pub(crate) news: MoveList,

@@ -1,17 +1,25 @@
 // What the ranks of the rows ask of the rank of one row.
 ghost use Rattle.std.specs.Prelude.{◌≡◌, ℕ, ◌<◌, MatchBool, MatchOption};
 ghost use Rattle.pair_table.specs.Laws.{row};
-ghost use Rattle.compare.specs.declared.modules.Side.{Side};
+ghost use Rattle.compare.specs.declared.ranking.Side.{Side};
 ghost use Rattle.compare.specs.Rows.{Is, Absent};
 ghost use Rattle.compare.specs.Ranks.{Judged, JudgedAll, JudgedRow, JudgedTick, Lasts, Leaves, PartnerBy};
 
 use crate::filled::Filled;
-use crate::modules::{Modules, Side};
+use crate::modules::Modules;
 use crate::moves::PairMoves;
 use catalogue::{Catalogue, Move};
 use pair_table::PairRow;
 
-// Whether a partner of rank `rank` is there until the round `limit`. 0 stands for no round, as in the rows that are lent and printed.
+// Of which module a move is. A value, since both sides go through the functions below, and differ in `partner_rank` alone.
+#[derive(Clone, Copy, Debug, PartialEq, Eq)]
+enum Side {
+    New,
+    Old,
+}
+
+// Whether a partner of rank `rank` is there until the round `limit`. 0 stands for no round, as in the rows that are lent and
+// printed.
 fn outlasts(rank: u32, limit: u32) -> bool
     ensures { MatchBool result (Lasts rank limit) (Leaves rank limit) }
 {
@@ -72,14 +80,14 @@ impl<'a> Filled<'a> {
     fn tick_unmatched<C: Catalogue>(&self, modules: &Modules<C>, held: PairRow, limit: u32) -> u32
         ensures { JudgedTick modules.now.new modules.now.old self.now.rows.now self.now.count held.new held.old limit result }
     {
-        let Some(p) = modules.tick(Side::New, held.new) else {
+        let Some(p) = modules.new.tick(held.new) else {
             return limit;
         };
-        let Some(q) = modules.tick(Side::Old, held.old) else {
+        let Some(q) = modules.old.tick(held.old) else {
             return 1;
         };
-        let asked = modules.urgent(Side::Old, held.old);
-        if !asked.is_subset(modules.urgent(Side::New, held.new)) {
+        let asked = modules.old.urgent(held.old);
+        if !asked.is_subset(modules.new.urgent(held.new)) {
             return 1;
         }
         let Some(rank) = self.rank_of(p, q) else {

@@ -24,12 +24,12 @@ returns-in_err-admit g c =
     let k = at_exit (g.C.Catalogue.meaning c.args.catalogue.now) c.args.new c.args.old _ _ _ _ c.none-filled.ensures.rows (search rules)
     (refused_first (g.C.Catalogue.meaning c.args.catalogue.now) c.args.new c.args.old (g.met.C.Catalogue.lawful c.args.catalogue.now) c.in_ok-p.p c.in_ok-q.q
     (start_there _ _ _ c.in_ok-p.ensures.value ∙ c.start-2.ensures) (start_there _ _ _ c.in_ok-q.ensures.value ∙ c.start.ensures)
-    c.none-filled.result c.admit.new.self c.none-filled.ensures.count _ c.in_err-admit.ensures.grows) in
+    c.none-filled.result c.admit.new.self c.none-filled.ensures.count _ c.in_err-admit.ensures) in
     rw (p.1, p.2) (record { answer = k.answer; table = k.table; judges = k.judges; ordered = k.ordered; worked = k.worked })
 
 pub returns-in_err-explore : goal.returns-in_err-explore
 returns-in_err-explore g c =
-    let b : Begun (g.C.Catalogue.meaning c.args.catalogue.now) c.args.new c.args.old c.none-filled.result c.admit.new.self c.of-modules.result =
+    let b : Begun (g.C.Catalogue.meaning c.args.catalogue.now) c.args.new c.args.old c.none-filled.result c.admit.new.self c.of-modules.result.new c.of-modules.result.old =
     record {
       lawful = g.met.C.Catalogue.lawful c.args.catalogue.now;
       p = c.in_ok-p.p;
@@ -39,16 +39,16 @@ returns-in_err-explore g c =
       none = c.none-filled.ensures.count;
       is_new = c.of-modules.ensures.new;
       is_old = c.of-modules.ensures.old;
-      grew = c.in_ok-admit.ensures.grows;
+      grew = c.in_ok-admit.ensures;
     } in
     let p = err_from_is_err_and c.from_residual-in_err-explore.result c.from_residual-in_err-explore.ensures.1 in
     let k = at_exit (g.C.Catalogue.meaning c.args.catalogue.now) c.args.new c.args.old _ _ _ _ c.none-filled.ensures.rows (search rules)
-    (explored_full (g.C.Catalogue.meaning c.args.catalogue.now) c.args.new c.args.old _ _ _ b c.explore.new.self _ c.in_err-explore.ensures.grows) in
+    (explored_full (g.C.Catalogue.meaning c.args.catalogue.now) c.args.new c.args.old _ _ _ _ b c.explore.new.self _ c.in_err-explore.ensures) in
     rw (p.1, p.2) (record { answer = k.answer; table = k.table; judges = k.judges; ordered = k.ordered; worked = k.worked })
 
 pub settle-requires : goal.settle-requires
 settle-requires g c =
-    let b : Begun (g.C.Catalogue.meaning c.args.catalogue.now) c.args.new c.args.old c.none-filled.result c.admit.new.self c.of-modules.result =
+    let b : Begun (g.C.Catalogue.meaning c.args.catalogue.now) c.args.new c.args.old c.none-filled.result c.admit.new.self c.of-modules.result.new c.of-modules.result.old =
     record {
       lawful = g.met.C.Catalogue.lawful c.args.catalogue.now;
       p = c.in_ok-p.p;
@@ -58,13 +58,13 @@ settle-requires g c =
       none = c.none-filled.ensures.count;
       is_new = c.of-modules.ensures.new;
       is_old = c.of-modules.ensures.old;
-      grew = c.in_ok-admit.ensures.grows;
+      grew = c.in_ok-admit.ensures;
     } in
-    explored_fair (g.C.Catalogue.meaning c.args.catalogue.now) c.args.new c.args.old _ _ _ b c.explore.new.self c.in_ok-explore.ensures.grows
+    explored_fair (g.C.Catalogue.meaning c.args.catalogue.now) c.args.new c.args.old _ _ _ _ b c.explore.new.self c.in_ok-explore.ensures
 
 pub returns : goal.returns
 returns g c =
-    let b : Begun (g.C.Catalogue.meaning c.args.catalogue.now) c.args.new c.args.old c.none-filled.result c.admit.new.self c.of-modules.result =
+    let b : Begun (g.C.Catalogue.meaning c.args.catalogue.now) c.args.new c.args.old c.none-filled.result c.admit.new.self c.of-modules.result.new c.of-modules.result.old =
     record {
       lawful = g.met.C.Catalogue.lawful c.args.catalogue.now;
       p = c.in_ok-p.p;
@@ -74,8 +74,8 @@ returns g c =
       none = c.none-filled.ensures.count;
       is_new = c.of-modules.ensures.new;
       is_old = c.of-modules.ensures.old;
-      grew = c.in_ok-admit.ensures.grows;
+      grew = c.in_ok-admit.ensures;
     } in
     let k = at_exit (g.C.Catalogue.meaning c.args.catalogue.now) c.args.new c.args.old _ _ _ _ c.none-filled.ensures.rows (search rules)
-    (settled_rows (g.C.Catalogue.meaning c.args.catalogue.now) c.args.new c.args.old _ _ _ b c.explore.new.self c.settle.new.self.rows.now c.settle.new.self.count c.in_ok-explore.ensures.grows c.settle.ensures.alike c.settle.ensures.same_count c.settle.ensures.ranked) in
+    (settled_rows (g.C.Catalogue.meaning c.args.catalogue.now) c.args.new c.args.old _ _ _ _ b c.explore.new.self c.settle.new.self.rows.now c.settle.new.self.count c.in_ok-explore.ensures c.settle.ensures.alike c.settle.ensures.same_count c.settle.ensures.ranked) in
     record { answer = k.answer; table = k.table; judges = k.judges; ordered = k.ordered; worked = k.worked }

@@ -4,11 +4,11 @@ use Rattle.compare.proofs.Growth.{found, not_found, grew_more, full_now, modest_
 use Rattle.compare.proofs.filled.Filled.admit.Goals as goal
 use Rattle.compare.proofs.filled.Filled.admit.Goals.{then-self-via-then-self, then-self-via-else-self+then-self-ge-MOST_ROWS}
 
-pub returns-then-is_some-clause-grows : goal.returns-then-is_some-clause-grows
-returns-then-is_some-clause-grows c = found c.args.self.now c.args.new c.args.old c.find.result (search rules) c.find.ensures
+pub returns-then-is_some : goal.returns-then-is_some
+returns-then-is_some c = found c.args.self.now c.args.new c.args.old c.find.result (search rules) c.find.ensures
 
-pub returns-then-self-clause-grows : goal.returns-then-self-clause-grows
-returns-then-self-clause-grows c =
+pub returns-then-self : goal.returns-then-self
+returns-then-self c =
     full_now c.args.self.now c.args.new c.args.old (not_found c.args.self.now c.args.new c.args.old c.find.result (search rules) c.find.ensures)
     (elim c.then-self.branch [
       | then-self-via-then-self w ↦ (let t = w.if-self.true in omega arith)
@@ -24,6 +24,6 @@ invariant_of-self c =
       modest = modest_more _ _ _ _ (omega arith) c.args.self.now.modest;
     }
 
-pub returns-clause-grows : goal.returns-clause-grows
-returns-clause-grows c =
-    grew_more c.args.self.now _ c.args.new c.args.old (omega arith) (not_found c.args.self.now c.args.new c.args.old c.find.result (search rules) c.find.ensures) refl refl
+pub returns : goal.returns
+returns c =
+    grew_more c.args.self.now _ c.args.new c.args.old (omega arith) (not_found c.args.self.now c.args.new c.args.old c.find.result (search rules) c.find.ensures) refl refl refl

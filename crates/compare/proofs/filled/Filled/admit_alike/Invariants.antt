@@ -1,4 +1,3 @@
-use Rattle.std.proofs.Common.{◌≡◌}
 use Rattle.action.specs.Lists.{each}
 use Rattle.pair_table.specs.Pairs.{added, alike}
 use Rattle.compare.specs.Growth.{pairs_in}
@@ -7,5 +6,4 @@ use Rattle.compare.proofs.filled.Filled.admit_alike.Given as goal
 
 abbrev pub invariant-loop-b : goal.invariant-loop-b
 invariant-loop-b l =
-    (l.self.rows.ghost_name ≡ l.initial.self.rows.ghost_name)
-    × Growing l.initial.self l.self (alike_left l.a l.olds l.b-index) (added (pairs_in l.initial.self) (each (alike l.a) l.olds))
+    Growing l.initial.self l.self (alike_left l.a l.olds l.b-index) (added (pairs_in l.initial.self) (each (alike l.a) l.olds))
