@@ -13,7 +13,7 @@ use Rattle.book_grammar.specs.Reading.{tried, smallest, Step, Read, run, reading
 use Rattle.book_grammar.specs.Reading.Step.{stops, goes}
 use Rattle.book_grammar.specs.Reading.Read.{refused, taken}
 use Rattle.book_grammar.specs.Limits.{TakenDerived, DerivedTaken}
-use Rattle.book_grammar.proofs.Free.{freely, fine, at_outside, book_does, titles_after}
+use Rattle.book_grammar.proofs.Free.{freely, freely_step, fine, at_outside, book_does, titles_after}
 use Rattle.book_grammar.proofs.Parsed.{book_of}
 use Rattle.book_grammar.proofs.Bounds.{Passes, Passed, book_passes, book_passed}
 use Rattle.book_grammar.proofs.Viable.{tried_goes, goes_fine}
@@ -53,9 +53,6 @@ freely_some s w ws z e = go (fine s w) refl e
     go : (b : Bool) → fine s w ≡ b → ◌≡◌ {A = Option Reading} (elim b [ true ↦ freely (moved s w) ws | false ↦ None ]) (Some z) → (fine s w ≡ true) × (freely (moved s w) ws ≡ Some z)
     go true h i = (h, i)
     go false h i = absurd (let o : ◌≡◌ {A = ℕ} 0 1 = cc in omega arith)
-
-freely_step : (s : Reading) (w : Kind) (ws : List Kind) → fine s w ≡ true → freely s (w ∷ ws) ≡ freely (moved s w) ws
-freely_step s w ws e = ap {B = Option Reading} (λ (b : Bool). elim b [ true ↦ freely (moved s w) ws | false ↦ None ]) e
 
 run_takes : (p m end : ℕ) (s : Reading) (ws : List Word) (z : Reading) → freely s (kinds ws) ≡ Some z → at z outside ≡ true → Passed p m s (kinds ws)
     → run p m end s ws ≡ taken z.places z.modules

@@ -26,19 +26,16 @@ abbrev pub freely : Reading → List Kind → Option Reading
 freely s [] = Some s
 freely s (w ∷ ws) = elim (fine s w) [ true ↦ freely (moved s w) ws | false ↦ None ]
 
+-- one word more
+pub freely_step : (s : Reading) (w : Kind) (ws : List Kind) → fine s w ≡ true → freely s (w ∷ ws) ≡ freely (moved s w) ws
+freely_step s w ws e = ap {B = Option Reading} (λ (b : Bool). elim b [ true ↦ freely (moved s w) ws | false ↦ None ]) e
+
 -- a left side begun
 abbrev pub at_left : Reading → List Row → List Side → Reading
 at_left s rows sides = record { state = left; opened = []; rows = rows; sides = sides; titles = s.titles; places = s.places; modules = s.modules }
 
 abbrev pub Closed : List Open → Type 0
 Closed os = (around os ≡ os) × ((R : List Row) → finished os R ≡ R)
-
-around_closed : (os : List Open) → Closed (around os)
-around_closed [] = (refl, λ R. refl)
-around_closed (waiting ∷ os) = around_closed os
-around_closed (acting a ∷ os) = around_closed os
-around_closed (adding k ∷ os) = around_closed os
-around_closed (paren ∷ os) = (refl, λ R. refl)
 
 mutual
   -- what the words of a term do
@@ -94,13 +91,9 @@ abbrev pub titles_after : List Module → List (List ℕ) → List (List ℕ)
 titles_after [] titles = titles
 titles_after (m ∷ ms) titles = titles_after ms (titles ++ m.title ∷ [])
 
-some_push : {A : Type 0} (xs : List A) (x : A) → some (xs ++ x ∷ []) ≡ true
+pub some_push : {A : Type 0} (xs : List A) (x : A) → some (xs ++ x ∷ []) ≡ true
 some_push [] x = refl
 some_push (y ∷ xs) x = refl
-
-some_sides : (es : List Equation) (R : List Row) (E : List Side) → some E ≡ true → some (sides_after es R E) ≡ true
-some_sides [] R E h = h
-some_sides (e ∷ es) R E h = some_sides es (laid e.right R) _ (some_push E (side e.left (newest (laid e.right R))))
 
 equations_some : {u : List Kind} {es : List Equation} → Equations u es → (R : List Row) (E : List Side) → some (sides_after es R E) ≡ true
 equations_some (last_equation x {u} {t} d) R E = some_push E (side x (newest (laid t R)))

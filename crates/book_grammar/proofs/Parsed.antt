@@ -20,7 +20,7 @@ use Rattle.book_grammar.specs.Reading.State.{outside, title, brace, equal, term,
 use Rattle.book_grammar.specs.Reading.Open.{waiting, acting, adding, paren}
 use Rattle.book_grammar.proofs.Free.{freely, at_left, at_outside, sided_last}
 
-none_some : (z : Reading) → ◌≡◌ {A = Option Reading} None (Some z) → ⊥
+pub none_some : (z : Reading) → ◌≡◌ {A = Option Reading} None (Some z) → ⊥
 none_some z e = let o : ◌≡◌ {A = ℕ} 0 1 = cc in omega arith
 
 some_is : (y z : Reading) → Some y ≡ Some z → y ≡ z

@@ -18,8 +18,8 @@ use Rattle.book_grammar.specs.Reading.{long, given, lacking, over, tried, smalle
 use Rattle.book_grammar.specs.Reading.Step.{stops, goes}
 use Rattle.book_grammar.specs.Reading.Read.{refused, taken}
 use Rattle.book_grammar.specs.Laws.{Continues, RefusalTwo}
-use Rattle.book_grammar.proofs.Free.{freely, fine, at_left, book_does}
-use Rattle.book_grammar.proofs.Parsed.{book_of}
+use Rattle.book_grammar.proofs.Free.{freely, freely_step, fine, at_left, some_push, book_does}
+use Rattle.book_grammar.proofs.Parsed.{none_some, book_of}
 
 state_of : ℕ → State
 state_of zero = outside
@@ -67,10 +67,6 @@ around_twice (acting a ∷ os) = around_twice os
 around_twice (adding k ∷ os) = around_twice os
 around_twice (paren ∷ os) = refl
 
-pub some_push : {A : Type 0} (xs : List A) (x : A) → some (xs ++ x ∷ []) ≡ true
-some_push [] x = refl
-some_push (y ∷ xs) x = refl
-
 pub some_sided : (E : List Side) (k : ℕ) → some (sided E k) ≡ some E
 some_sided [] k = refl
 some_sided (x ∷ []) k = refl
@@ -104,9 +100,6 @@ good_moved ends s e g = refl
 good_moved bad s e g = absurd (false≢true (and_parts (at s term) false e).1)
 good_moved other s e g = absurd (false≢true e)
 good_moved alien s e g = absurd (false≢true e)
-
-freely_step : (s : Reading) (w : Kind) (ws : List Kind) → fine s w ≡ true → freely s (w ∷ ws) ≡ freely (moved s w) ws
-freely_step s w ws e = ap {B = Option Reading} (λ (b : Bool). elim b [ true ↦ freely (moved s w) ws | false ↦ None ]) e
 
 freely_stop : (s : Reading) (w : Kind) (ws : List Kind) → fine s w ≡ false → freely s (w ∷ ws) ≡ None
 freely_stop s w ws e = ap {B = Option Reading} (λ (b : Bool). elim b [ true ↦ freely (moved s w) ws | false ↦ None ]) e
@@ -154,15 +147,12 @@ ends_well term s os R g = ends_term s os R g
 ends_well point s os R g = ends_by (on s point os R) dot refl (ends_term s os R g)
 ends_well after s os R g = subst (λ (o : List Open). Ends (on s after o R)) g.0 (ends_after s os R g.1)
 
-no_way : (t : Reading) → ◌≡◌ {A = Option Reading} None (Some t) → ⊥
-no_way t e = let z : ◌≡◌ {A = ℕ} 0 1 = cc in omega arith
-
 freely_then : (s : Reading) (u v : List Kind) (t : Reading) → freely s u ≡ Some t → freely s (u ++ v) ≡ freely t v
 freely_then s [] v t e = let i : s ≡ t = cc in ap (λ (r : Reading). freely r v) i
 freely_then s (w ∷ u) v t e =
     elim (cases_Bool (fine s w)) [
       | inl f ↦ freely_step s w (u ++ v) f ∙ freely_then (moved s w) u v t (sym (freely_step s w u f) ∙ e)
-      | inr f ↦ absurd (no_way t (sym (freely_stop s w u f) ∙ e))
+      | inr f ↦ absurd (none_some t (sym (freely_stop s w u f) ∙ e))
     ]
 
 good_reached : (s : Reading) (u : List Kind) (t : Reading) → Good s → freely s u ≡ Some t → Good t
@@ -170,7 +160,7 @@ good_reached s [] t g e = let i : s ≡ t = cc in subst (λ (r : Reading). Good 
 good_reached s (w ∷ u) t g e =
     elim (cases_Bool (fine s w)) [
       | inl f ↦ good_reached (moved s w) u t (good_moved w s f g) (sym (freely_step s w u f) ∙ e)
-      | inr f ↦ absurd (no_way t (sym (freely_stop s w u f) ∙ e))
+      | inr f ↦ absurd (none_some t (sym (freely_stop s w u f) ∙ e))
     ]
 
 -- what the grammar leads to can be continued to a book
@@ -188,7 +178,7 @@ leads u b d = (_, book_does d [] [] [], refl)
 stuck : (u : List Kind) (s : Reading) (w : Kind) → freely blank_reading u ≡ Some s → fine s w ≡ false → Continues (u ++ w ∷ []) → ⊥
 stuck u s w e f c =
     let l = leads ((u ++ w ∷ []) ++ c.0) c.1 c.2 in
-    no_way l.0 (sym (freely_stop s w c.0 f) ∙ sym (freely_then blank_reading u (w ∷ c.0) s e)
+    none_some l.0 (sym (freely_stop s w c.0 f) ∙ sym (freely_then blank_reading u (w ∷ c.0) s e)
     ∙ ap (λ (y : List Kind). freely blank_reading y) (sym (append_assoc u (w ∷ []) c.0)) ∙ l.1)
 
 unfinished : (u : List Kind) (s : Reading) → freely blank_reading u ≡ Some s → at s outside ≡ false → (b : List Module) → Book u b → ⊥

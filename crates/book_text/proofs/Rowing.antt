@@ -91,12 +91,6 @@ put_rows P f r x h =
 pub length_rows : (P : List Place) (f r : ℕ) → f + r ≤ length P → length (take r (drop f P)) ≡ r
 length_rows P f r h = let l = length-drop f P in length-take-le r (drop f P) (omega arith)
 
-pub length_closed : (os : List Open) (low n : ℕ) (R : List Place) → length (closed_rows os low n R) ≡ length R + n
-length_closed os low zero R = omega arith
-length_closed os low (suc n) R =
-    let p = place_for (op_at os (low + n)) (length R - 1) in
-    omega (arith, length_closed os low n (R ++ p ∷ []), length_push R p)
-
 -- the op below `pend` is complete
 pub closed_more : (os : List Open) (low pend : ℕ) (R : List Place) → low < pend
     → closed_rows os low (pend - low) R ≡ closed_rows os low (pend - 1 - low) (R ++ place_for (op_at os (pend - 1)) (length R - 1) ∷ [])

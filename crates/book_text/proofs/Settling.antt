@@ -5,7 +5,7 @@ use Rattle.std.proofs.lemmas.Bool.{or_from, or_parts, or_left, or_right}
 use Rattle.std.specs.List.{find}
 use Rattle.action.specs.Lists.{any}
 use Rattle.rows.specs.declared.row.Place.{Place}
-use Rattle.rows.specs.declared.row.Place.TheVariants.{Nil, Act, Wait, Sum, Name}
+use Rattle.rows.specs.declared.row.Place.TheVariants.{Nil, Name}
 use Rattle.book_words.specs.Words.{same}
 use Rattle.book_grammar.specs.Rows.{Row, Side, place_of, settled}
 use Rattle.book_grammar.specs.Rows.Row.{named}
@@ -22,14 +22,6 @@ use Rattle.book_text.proofs.Rowing.{nowhere, rows_push, length_rows}
 
 settled_by : (S : List Side) (r : Row) (b : Bool) → lost S r ≡ b → settled_row S r ≡ elim b [ true ↦ None | false ↦ Some (settled S r) ]
 settled_by S r b e = ap {B = Option Place} (λ (x : Bool). elim x [ true ↦ None | false ↦ Some (settled S r) ]) e
-
--- a place that is no name stays
-pub settled_plain : (S : List Side) (text : List ℕ) (s : Span) (p : Place) → ((k : ℕ) → p ≡ Name k → ⊥) → Some p ≡ settled_row S (row_in text s p)
-settled_plain S text s Nil h = refl
-settled_plain S text s (Act a k) h = refl
-settled_plain S text s (Wait k) h = refl
-settled_plain S text s (Sum j k) h = refl
-settled_plain S text s (Name k) h = absurd (h k refl)
 
 -- a name leads to the right side of the first equation with it
 pub settled_named : (text : List ℕ) (ls : List Label) (x : List ℕ) (o : Option Label) → find (is_named text x) ls ≡ o

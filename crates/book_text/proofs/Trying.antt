@@ -1,5 +1,5 @@
 -- What a word that is tried leads to, by the tests that decide it.
-use Rattle.std.proofs.Common.{◌≡◌, ℕ, ◌+◌, ◌<◌, Bool, true, false, ltb, List, length, IsErrAnd, Ok, Result, sym, refl, ap, ◌∙◌, subst}
+use Rattle.std.proofs.Common.{◌≡◌, ℕ, ◌+◌, ◌<◌, Bool, true, false, ltb, List, length, IsErrAnd, Some, None, Option, Ok, Err, Result, ok_or, sym, refl, ap, ◌∙◌, subst, arith}
 use Rattle.std.proofs.lemmas.Bool.{or_left, or_right, lt-ltb}
 use Rattle.std.proofs.lemmas.Result.{err_from_is_err_and}
 use Rattle.book_words.specs.Words.{Kind}
@@ -70,13 +70,22 @@ pub lacks : (p m : ℕ) (v : Reading) (k : Kind) (at : ℕ) (f : BookFault) → 
     → (tried p m v k ≡ stops (number_of f)) × (where_of f ≡ offset_at at)
 lacks p m v k at f h e = subst (λ (y : BookFault). (tried p m v k ≡ stops (number_of y)) × (where_of y ≡ offset_at at)) (sym e) (h, refl)
 
+-- since it is not allowed
+pub stopped : (p m : ℕ) (v : Reading) (k : Kind) (at : ℕ) (f : BookFault) → tried p m v k ≡ stops 2 → f ≡ NotAllowed at
+    → (tried p m v k ≡ stops (number_of f)) × (where_of f ≡ offset_at at)
+stopped p m v k at f h e = subst (λ (y : BookFault). (tried p m v k ≡ stops (number_of y)) × (where_of y ≡ offset_at at)) (sym e) (h, refl)
+
+-- what stands for a value that is not there
+pub missing : {A : Type 0} (o : Option A) (e f : BookFault) → Err f ≡ ok_or o e → f ≡ e
+missing None e f h = cc
+missing (Some x) e f h = absurd (let z : ◌≡◌ {A = ℕ} 0 1 = cc in omega arith)
+
 -- since it is not allowed, by a parser that stays as it is
 pub not_here : (text : List ℕ) (d : Parser) (P : List Place) (M : List ModuleRow) (k : Kind) (at : ℕ) (f : BookFault) (r : Result (Unit {0}) BookFault)
     → IsErrAnd r (λ (y : BookFault). y ≡ f) → tried (length P) (length M) (view text d P M) k ≡ stops 2 → f ≡ NotAllowed at
     → Leads (length P) (length M) (length text) (view text d P M) k at (view text d P M) d r
 not_here text d P M k at f r b h e =
-    refuses (length P) (length M) (length text) (view text d P M) k at (view text d P M) d f r b
-    (subst (λ (y : BookFault). (tried (length P) (length M) (view text d P M) k ≡ stops (number_of y)) × (where_of y ≡ offset_at at)) (sym e) (h, refl))
+    refuses (length P) (length M) (length text) (view text d P M) k at (view text d P M) d f r b (stopped (length P) (length M) (view text d P M) k at f h e)
 
 -- over a limit
 module _ (p m : ℕ) (s : Reading) where

@@ -55,7 +55,7 @@ impl From<RowsFault> for BookFault {
 }
 
 impl WordFault {
-    // The number of the refusal. Each enum of refusals has such a table of its own; a trait of the eight would say no more of them.
+    // The number of the refusal. Each enum of refusals has such a table of its own, which a trait of them would only name again.
     pub fn number(self) -> u8
         ensures { result ≡ number_of (Word self) }
     {
@@ -68,7 +68,7 @@ impl WordFault {
 }
 
 impl BookFault {
-    // The number of the refusal. Each enum of refusals has such a table of its own; a trait of the eight would say no more of them.
+    // The number of the refusal. Each enum of refusals has such a table of its own, which a trait of them would only name again.
     pub fn number(self) -> u8
         ensures { result ≡ number_of self }
     {
@@ -90,9 +90,9 @@ impl fmt::Display for WordFault {
     fn fmt<W: fmt::Write>(&self, f: &mut fmt::Formatter<W>) -> fmt::Result {
         let number = self.number();
         match self {
-            WordFault::Alien(at) => write!(f, "{number} {at}"),
-            WordFault::Port(at) => write!(f, "{number} {at}"),
-            WordFault::Long(at) => write!(f, "{number} {at}"),
+            WordFault::Alien(at) | WordFault::Port(at) | WordFault::Long(at) => {
+                write!(f, "{number} {at}")
+            }
         }
     }
 }
@@ -105,10 +105,10 @@ impl fmt::Display for BookFault {
         let number = self.number();
         match self {
             BookFault::Word(fault) => write!(f, "{fault}"),
-            BookFault::NotAllowed(at) => write!(f, "{number} {at}"),
-            BookFault::GivenBefore(at) => write!(f, "{number} {at}"),
-            BookFault::NoEquation(at) => write!(f, "{number} {at}"),
-            BookFault::TooMany(at) => write!(f, "{number} {at}"),
+            BookFault::NotAllowed(at)
+            | BookFault::GivenBefore(at)
+            | BookFault::NoEquation(at)
+            | BookFault::TooMany(at) => write!(f, "{number} {at}"),
             BookFault::Rows(fault) => write!(f, "{fault}"),
         }
     }

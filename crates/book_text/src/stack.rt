@@ -3,8 +3,8 @@ ghost use Rattle.std.specs.Prelude.{◌≡◌, ◌+◌, ◌-◌, ◌^◌, ◌<�
 ghost use Rattle.book_text.specs.Parsers.{op_at, rows_in};
 ghost use Rattle.book_text.specs.Stacks.{floor, pushed, place_for, closed_rows};
 
-use crate::parser::{MOST_PLACES, Open, Stack};
-use rows::Place;
+use crate::parser::{Open, Parser, Stack};
+use rows::{MOST_PLACES, Place};
 
 impl Open {
     // What an op becomes with the place that follows it.
@@ -46,19 +46,21 @@ impl Stack {
     {
         self.ops.get(i).copied().unwrap_or_default()
     }
+}
 
-    // The ops above `low` are complete, the last one first: the number of rows then. The parser, whose fields it takes, lends its
-    // stack meanwhile.
-    pub(crate) fn complete(&self, low: usize, first: usize, rows: u16, places: &mut [Place]) -> u16
-        requires few { rows + (self.now.pending - low) ≤ 256 }
-        requires room { first + (rows + (self.now.pending - low)) ≤ length places.old }
-        ensures rows { result ≡ rows + (self.now.pending - low) }
-        ensures table { rows_in first result places.new ≡ closed_rows self.now.ops low (self.now.pending - low) (rows_in first rows places.old) }
-        ensures front { take first places.new ≡ take first places.old }
+impl Parser {
+    // The ops above `low` are complete, the last one first: the number of rows then.
+    pub(crate) fn complete(&self, low: usize, places: &mut [Place]) -> u16
+        requires few { self.now.rows + (self.now.stack.pending - low) ≤ 256 }
+        requires room { self.now.first + (self.now.rows + (self.now.stack.pending - low)) ≤ length places.old }
+        ensures rows { result ≡ self.now.rows + (self.now.stack.pending - low) }
+        ensures table { rows_in self.now.first result places.new ≡ closed_rows self.now.stack.ops low (self.now.stack.pending - low) (rows_in self.now.first self.now.rows places.old) }
+        ensures front { take self.now.first places.new ≡ take self.now.first places.old }
     {
-        let mut n = rows;
-        for i in (low..self.pending).rev() {
-            places[first + usize::from(n)] = self.op_at(i).before(n.saturating_sub(1));
+        // By number: the newest op is first, and `pending` may count more ops than `ops` keeps.
+        let mut n = self.rows;
+        for i in (low..self.stack.pending).rev() {
+            places[self.first + usize::from(n)] = self.stack.op_at(i).before(n.saturating_sub(1));
             n += 1;
         }
         n

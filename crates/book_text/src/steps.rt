@@ -7,18 +7,19 @@ ghost use Rattle.book_text.specs.Parsers.{row_in, rows_in, side_in, view};
 ghost use Rattle.book_text.specs.Stacks.{waiting_on};
 ghost use Rattle.book_text.specs.Changes.{is_at, Fits, TooManyRows, Finishes, Passes, Opens};
 ghost use Rattle.book_text.specs.Settling.{settled_row, Settles};
-ghost use Rattle.book_text.specs.Steps.{Blank, Steady, Leads, DoesName, DoesAny, DoesModule, DoesRows, DoesRowsAny};
+ghost use Rattle.book_text.specs.Steps.{Blank, Steady, Leads, DoesName, DoesAny, DoesModule, DoesRowsAny};
 
 use crate::fault::{BookFault, WordFault};
 use crate::names::{add, find, no_longer, part};
-use crate::parser::{MOST_MODULES, MOST_PLACES, Open, Parser, Span, State};
-use rows::{ModuleRow, Place};
+use crate::parser::{Open, Parser, Span, State};
+use rows::{MOST_MODULES, MOST_PLACES, ModuleRow, Place};
 
 mod reading;
 
 pub use reading::{Used, read};
 
-// The rows are lent to each step. With them in a field, every contract would have to say besides that they are still the caller's.
+// The rows are lent to each step. With them in a field, every contract would have to say besides that they are still the
+// caller's.
 impl Parser {
     fn new() -> Parser
         ensures { Blank result }
@@ -75,7 +76,7 @@ impl Parser {
         let low = self.stack.floor();
         let waiting = self.stack.pending.saturating_sub(low);
         self.room(waiting, places.len())?;
-        self.rows = self.stack.complete(low, self.first, self.rows, places);
+        self.rows = self.complete(low, places);
         self.stack.pending = low;
         self.state = State::After;
         Ok(())
@@ -163,9 +164,10 @@ impl Parser {
         ensures { DoesRowsAny self.old places.old closes self.old.at self.new places.new result }
     {
         self.expect(State::After)?;
-        let Some(_) = self.stack.floors.pop() else {
-            return Err(BookFault::NotAllowed(self.at));
-        };
+        self.stack
+            .floors
+            .pop()
+            .ok_or(BookFault::NotAllowed(self.at))?;
         self.finish(places)
     }
 
@@ -178,9 +180,10 @@ impl Parser {
             return Err(BookFault::NotAllowed(self.at));
         }
         let last = self.lefts.len().saturating_sub(1);
-        let Some(label) = self.lefts.get_mut(last) else {
-            return Err(BookFault::NotAllowed(self.at));
-        };
+        let label = self
+            .lefts
+            .get_mut(last)
+            .ok_or(BookFault::NotAllowed(self.at))?;
         label.place = self.rows.saturating_sub(1);
         self.state = State::Left;
         Ok(())
@@ -194,7 +197,8 @@ impl Parser {
         Err(BookFault::Word(WordFault::Port(self.at)))
     }
 
-    // A place once all left sides are known; a name leads to the right side of its equation, and there is no such place where it has none.
+    // A place once all left sides are known; a name leads to the right side of its equation, and there is no such place where
+    // it has none.
     fn settled(&self, text: &[u8], span: Span, place: Place) -> Option<Place>
         ensures { result ≡ settled_row (map (side_in text.now) self.now.lefts.items) (row_in text.now span place) }
     {
@@ -212,10 +216,11 @@ impl Parser {
         ensures { Settles text.now self.now places.old self.now.at places.new result }
     {
         let first = self.first;
+        // The places by number: a walk over `iter_mut` tells nothing of what it writes.
         for (i, span) in self.names[..usize::from(self.rows)].iter().enumerate() {
-            let Some(place) = self.settled(text, *span, places[first + i]) else {
-                return Err(BookFault::NoEquation(self.at));
-            };
+            let place = self
+                .settled(text, *span, places[first + i])
+                .ok_or(BookFault::NoEquation(self.at))?;
             places[first + i] = place;
         }
         Ok(())
@@ -232,9 +237,7 @@ impl Parser {
         ensures { Leads (length places.old) (length modules.old) (length text.now) (view text.now self.old places.old modules.old) leave self.old.at (view text.now self.new places.new modules.new) self.new result }
     {
         self.expect(State::Left)?;
-        let Some(start) = self.lefts.first() else {
-            return Err(BookFault::NotAllowed(self.at));
-        };
+        let start = self.lefts.first().ok_or(BookFault::NotAllowed(self.at))?;
         let start = usize::from(start.place);
         self.settle(text, places)?;
         modules[self.done] = ModuleRow {

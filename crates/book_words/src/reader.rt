@@ -8,7 +8,7 @@ use crate::word::{Found, Word};
 use action::opposite;
 
 // The ports are 1 to this.
-const LAST_PORT: u16 = 31;
+const LAST_PORT: u16 = action::LAST_PORT as u16;
 
 fn is_blank(b: u8) -> bool
     ensures { result ≡ blank b }
@@ -55,7 +55,7 @@ fn run_end<F: FnMut(&u8) -> bool>(text: &[u8], from: usize, passes: F) -> usize
         .count()
 }
 
-// Whether two texts are the same: `==`, for who wants to cite it as the grammar's definitions write it.
+// Whether two texts are the same. It is kept for callers outside: the repository itself writes `==`.
 pub fn same_bytes(a: &[u8], b: &[u8]) -> bool
     ensures { result ≡ same a.now b.now }
 {
@@ -114,8 +114,9 @@ fn act<'a>(action: Option<i8>) -> Word<'a>
     }
 }
 
-// The first word at or behind an offset: a longest run of letters and digits, a `?` or `!` with its digits, or another byte but space and
-// newline. A byte outside the alphabet is a word too, and so is a `?` with no port: whether a word may stand is not asked here.
+// The first word at or behind an offset: a longest run of letters and digits, a `?` or `!` with its digits, or another byte
+// but space and newline. A byte outside the alphabet is a word too, and so is a `?` with no port: whether a word may stand is
+// not asked here.
 pub fn next_word<'a>(text: &'a [u8], from: usize) -> Option<Found<'a>>
     ensures { Cuts text.now from result }
 {

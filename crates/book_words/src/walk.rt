@@ -7,7 +7,7 @@ ghost use Rattle.book_words.specs.Walking.{coming, IsAt, Gives};
 use crate::reader::next_word;
 use crate::word::Found;
 
-#[derive(Clone, Copy)]
+#[derive(Clone, Copy, Debug, PartialEq, Eq)]
 pub struct Words<'a> {
     text: &'a [u8],
     // where to look for the next word

@@ -22,7 +22,8 @@ pub struct Used {
 }
 
 impl Parser {
-    // What a word does; the smallest number that holds refuses it. The text and the rows are lent to each step, as said where its methods begin.
+    // What a word does; the smallest number that holds refuses it. The text and the rows are lent to each step: with them in a
+    // field, every contract would have to say besides that they are still the caller's.
     fn step(
         &mut self,
         text: &[u8],
