@@ -1,7 +1,7 @@
 -- What a walk finds at a place, from what it finds at the places that the place leads to. Assumes nothing.
 use Rattle.std.proofs.Common.{◌≡◌, ℕ, zero, suc, ◌-◌, ◌<◌, ◌≤◌, min, Bool, true, false, ◌&&◌, ◌||◌, eqb, ◌⊎◌, inl, inr, List, [], ◌∷◌, ◌++◌, length, get_or, ℤ, None, sym, refl, ap, ◌∙◌, subst, arith, length-append}
 use Rattle.std.specs.Bool.{then_some}
-use Rattle.std.proofs.lemmas.Bool.{ne_eqb}
+use Rattle.std.proofs.lemmas.Bool.{ne_eqb, or_from}
 use Rattle.action.specs.declared.set.ActionSet.{ActionSet}
 use Rattle.action.specs.Lists.{nth}
 use Rattle.action.specs.Action.{is_action, same}
@@ -35,9 +35,6 @@ nth_past (x ∷ xs) (suc k) l = nth_past xs k (omega arith)
 
 no_append : {A : Type 0} (xs ys : List A) → length (xs ++ ys) ≡ 0 → (length xs ≡ 0) × (length ys ≡ 0)
 no_append xs ys e = (omega (arith, length-append xs ys), omega (arith, length-append xs ys))
-
-either_false : (a b : Bool) → a ≡ false → b ≡ false → (a || b) ≡ false
-either_false a b p q = rw (p, q)
 
 -- ── the walk goes on ──
 
@@ -118,7 +115,7 @@ module _ (ps : List Place) (ok : WellFormed ps) where
       go (Wait j) (suc n) h z rec = rec j n h.0 h.1 z
       go (Sum m o) n h z rec =
           let b = no_append (moves_of ps m) (moves_of ps o) z in
-          either_false (is_urgent ps m n a) (is_urgent ps o n a) (rec m n h.0.0 h.0.1 b.0) (rec o n h.1.0 h.1.1 b.1)
+          or_from (is_urgent ps m n a) (is_urgent ps o n a) (rec m n h.0.0 h.0.1 b.0) (rec o n h.1.0 h.1.1 b.1)
       go (Name j) n h z rec = rec j n h.0 h.1 z
 
   moves_at : (i : ℕ) (p : Place) → i < length ps → row ps i ≡ p → moves_of ps i ≡ moves_by p (λ j. moves_of ps j)

@@ -5,11 +5,24 @@ ghost use Rattle.rows.specs.Opening.{fault as fault_of_rows, verdict_of};
 ghost use Rattle.rows.specs.Rules.{BooksByTheRules, WaitsDelayNothing, TimeDeterministic};
 ghost use Rattle.rows.specs.Walks.{TellsOfWalks};
 ghost use Rattle.rows.specs.Cases.{Worked};
+ghost use Rattle.book.specs.Keeping.{KeepsAll};
 
 use super::Book;
 use super::table::Table;
-use rows::{ModuleRow, Place, RowsFault};
+use rows::{MOST_MODULES, MOST_PLACES, ModuleRow, Place, RowsFault};
 use trial::{Summary, try_module};
+
+// Tries rows, and keeps the summaries of each module that passes.
+fn fill(places: &[Place], modules: &[ModuleRow], table: &mut Table) -> Result<(), RowsFault>
+    ensures judged { result ≡ verdict_of (fault_of_rows places.now modules.now) }
+    ensures kept { KeepsAll places.now modules.now table.new.rows (result_err result) }
+{
+    // by index, since a walk over `iter_mut` tells nothing of what it writes
+    for (part, row) in modules.iter().enumerate() {
+        table.rows[part] = try_module(places, part, *row)?;
+    }
+    Ok(())
+}
 
 impl<'a> Book<'a> {
     // Opens rows as a book, whatever they hold. Where something is wrong with them, the book has no modules.
@@ -23,26 +36,14 @@ impl<'a> Book<'a> {
         ensures worked { Worked }
     {
         let mut table = Table {
-            rows: [[Summary::default(); 256]; 64],
+            rows: [[Summary::default(); MOST_PLACES]; MOST_MODULES],
         };
-        for (part, row) in modules.iter().enumerate() {
-            match try_module(places, part, *row) {
-                Ok(summaries) => table.rows[part] = summaries,
-                Err(found) => {
-                    return Book {
-                        places,
-                        modules,
-                        table,
-                        verdict: Some(found),
-                    };
-                }
-            }
-        }
+        let verdict = fill(places, modules, &mut table).err();
         Book {
             places,
             modules,
             table,
-            verdict: None,
+            verdict,
         }
     }
 
@@ -67,7 +68,7 @@ impl<'a> Book<'a> {
     }
 }
 
-// Tries rows as opening does.
+// Tries rows as opening does. It has the loop of `fill` alone, since it keeps no summaries and so needs no table for them.
 pub fn try_rows(places: &[Place], modules: &[ModuleRow]) -> Result<(), RowsFault>
     ensures { result ≡ verdict_of (fault_of_rows places.now modules.now) }
 {

@@ -9,7 +9,8 @@ ghost use Rattle.trial.specs.Trying.{AllInside, TriedPlaces, Tried};
 use super::module::Module;
 use super::summary::Summary;
 use action::is_action;
-use rows::{ModuleRow, Place, RowsFault};
+use catalogue::MOST_MOVES;
+use rows::{MOST_MODULES, MOST_PLACES, ModuleRow, Place, RowsFault};
 
 // Whether a place leads to places of a module of so many alone.
 fn is_inside(place: Place, places: usize) -> bool
@@ -51,7 +52,7 @@ fn first_deep(summaries: &[Summary]) -> Option<usize>
 fn first_with_many_moves(summaries: &[Summary]) -> Option<usize>
     ensures { result ≡ position (λ s. not (nat_le s.moves most_moves)) summaries.now }
 {
-    summaries.iter().position(|summary| summary.moves > 64)
+    summaries.iter().position(|summary| summary.moves as usize > MOST_MOVES)
 }
 
 impl Module<'_> {
@@ -73,10 +74,11 @@ impl Module<'_> {
     }
 
     // The summaries of all places, followed through one place more.
-    fn follow_on(&self, summaries: &[Summary]) -> [Summary; 256]
+    fn follow_on(&self, summaries: &[Summary]) -> [Summary; MOST_PLACES]
         ensures { (i : ℕ) → i < length self.now.places.now → slice_index_or result i unknown ≡ summary_by (row self.now.places.now i) (λ j. get_or summaries.now j unknown) }
     {
-        let mut next = [Summary::default(); 256];
+        let mut next = [Summary::default(); MOST_PLACES];
+        // by index, since a walk over `iter_mut` tells nothing of what it writes
         for (i, place) in self.places.iter().enumerate() {
             next[i] = Summary::of(*place, summaries);
         }
@@ -85,19 +87,19 @@ impl Module<'_> {
 
     // The summaries of all places, in an array, so that no want of memory can stop the trying. A walk through more places
     // than there are comes back, so as many rounds decide.
-    fn summarize(&self) -> [Summary; 256]
+    fn summarize(&self) -> [Summary; MOST_PLACES]
         requires { AllInside self.now.places.now }
         ensures { Summarizes self.now.places.now (length self.now.places.now) result }
     {
-        let mut summaries = [Summary::default(); 256];
-        for _round in self.places {
+        let mut summaries = [Summary::default(); MOST_PLACES];
+        for _round in 0..self.places.len() {
             summaries = self.follow_on(&summaries);
         }
         summaries
     }
 
     // Tries the places.
-    fn try_places(&self, part: usize) -> Result<[Summary; 256], RowsFault>
+    fn try_places(&self, part: usize) -> Result<[Summary; MOST_PLACES], RowsFault>
         ensures { TriedPlaces self.now.places.now part result }
     {
         if let Some(place) = self.first_outside() {
@@ -127,21 +129,19 @@ pub fn try_module(
     places: &[Place],
     part: usize,
     row: ModuleRow,
-) -> Result<[Summary; 256], RowsFault>
+) -> Result<[Summary; MOST_PLACES], RowsFault>
     ensures { Tried places.now part row result }
 {
-    if part >= 64 {
+    if part >= MOST_MODULES {
         return Err(RowsFault::ManyModules { part });
     }
-    if row.places > 256 {
+    if row.places > MOST_PLACES {
         return Err(RowsFault::ManyPlaces { part });
     }
-    let Some(places) = places
+    let places = places
         .get(row.first..)
         .and_then(|rest| rest.get(..row.places))
-    else {
-        return Err(RowsFault::BeyondRows { part });
-    };
+        .ok_or(RowsFault::BeyondRows { part })?;
     if row.start >= row.places {
         return Err(RowsFault::NoStart { part });
     }

@@ -1,9 +1,10 @@
 // A walk over what a set holds, in rising order.
-ghost use Rattle.std.specs.Prelude.{◌≡◌, ◌-◌, ◌<◌, ◌&&◌, ℤ, nat_lt};
+ghost use Rattle.std.specs.Prelude.{◌≡◌, ◌-◌, ◌<◌, ◌&&◌, nat_lt};
 ghost use Rattle.action.specs.Sets.{has, members, signed};
 ghost use Rattle.action.specs.Iterating.{coming, Comes};
 ghost use Rattle.std.specs.Iterator.{at_most};
 
+use super::super::number::LAST_PORT;
 use super::ActionSet;
 
 #[derive(Clone, Copy, Debug)]
@@ -18,7 +19,7 @@ fn action_at(bit: u8) -> i8
     requires { bit < 63 }
     ensures { result ≡ signed bit }
 {
-    bit as i8 - 31
+    bit as i8 - LAST_PORT
 }
 
 impl ActionSet {

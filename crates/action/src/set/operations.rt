@@ -1,9 +1,9 @@
 // What can be done with sets of actions. Every contract says which actions a set holds.
-ghost use Rattle.std.specs.Prelude.{◌≡◌, ◌≤◌, Bool, true, false, ◌&&◌, ◌||◌, T, ◌↔◌, ℤ, unsigned_abs};
+ghost use Rattle.std.specs.Prelude.{◌≡◌, ◌≤◌, false, ◌&&◌, ◌||◌, T, ◌↔◌, ℤ, unsigned_abs};
 ghost use Rattle.action.specs.Action.{is_action, same, last_port, Opposite};
 ghost use Rattle.action.specs.Sets.{place, has, within, meets, meets_on, ◌∋◌};
 
-use super::super::number::is_action;
+use super::super::number::{LAST_PORT, is_action};
 use super::ActionSet;
 
 // The bit of an action.
@@ -11,7 +11,7 @@ fn bit_of(action: i8) -> u32
     requires { unsigned_abs action ≤ last_port }
     ensures { result ≡ place action }
 {
-    (action + 31) as u32
+    (action + LAST_PORT) as u32
 }
 
 // Whether the two sets hold the two actions of one port, one each.

@@ -7,7 +7,7 @@ ghost use Rattle.line_rules.specs.Cases.{CanBeMet};
 ghost use Rattle.line.specs.Meaning.{line_of, wired_so, plans, Ported, Fitting, Drawing};
 
 use super::{Line, MOST_SLOTS, Slot};
-use action::ActionSet;
+use action::{ActionSet, LAST_PORT};
 use catalogue::Catalogue;
 use line_rules::DrawFault;
 use renaming::Renaming;
@@ -25,7 +25,7 @@ fn port_set(hidden: &[u8]) -> Option<ActionSet>
 {
     let mut set = ActionSet::empty();
     for port in hidden {
-        if !(1..=31).contains(port) {
+        if !(1..=LAST_PORT as u8).contains(port) {
             return None;
         }
         set.insert(*port as i8);
@@ -60,14 +60,13 @@ pub fn draw<C: Catalogue>(
     if slots.is_empty() || slots.len() > MOST_SLOTS {
         return Err(DrawFault::SlotCount);
     }
-    let Some(hidden) = port_set(hidden) else {
-        return Err(DrawFault::HiddenPort);
-    };
+    let hidden = port_set(hidden).ok_or(DrawFault::HiddenPort)?;
     let blank = Slot {
         holds: 0,
         renaming: Renaming::identity(),
     };
     let mut held = [blank; MOST_SLOTS];
+    // by index, since a walk over `iter_mut` tells nothing of what it writes
     for (i, plan) in slots.iter().enumerate() {
         held[i] = fitted(catalogue, plan.holds, plan.entries)?;
     }

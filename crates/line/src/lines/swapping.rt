@@ -26,9 +26,7 @@ impl Line {
         ensures table { table.new ≡ swap_table (C.Catalogue.meaning catalogue.now) (line_of self.old) slot new table.old }
         ensures promise { NoSwapSlows (C.Catalogue.meaning catalogue.now) (line_of self.old) (line_of self.new) }
     {
-        let Some(was) = self.slot(slot) else {
-            return Err(SwapFault::UnknownSlot);
-        };
+        let was = self.slot(slot).ok_or(SwapFault::UnknownSlot)?;
         let verdict = compare(catalogue, new, was.holds, table)?;
         if verdict.rank != 0 {
             return Err(SwapFault::Slower(verdict.rank));

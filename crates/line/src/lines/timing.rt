@@ -10,7 +10,7 @@ ghost use Rattle.line_rules.specs.Cases.{Worked};
 ghost use Rattle.line.specs.Meaning.{in_use, line_of};
 
 use super::Line;
-use action::ActionSet;
+use action::{ActionSet, LAST_PORT};
 use catalogue::Catalogue;
 use line_rules::{TimeAnswer, TimeFault};
 
@@ -21,7 +21,7 @@ fn has_code<C: Catalogue>(catalogue: &C, part: usize, code: u32) -> bool
     catalogue.codes(part).is_some_and(|codes| code < codes)
 }
 
-// The catalogue and the state stay parameters, as `time` is handed them: a struct of the three would be made for it alone.
+// The catalogue and the state stay parameters: a struct of them and the line would be one more type, which `time` alone makes.
 impl Line {
     // Whether the catalogue has the module of every slot.
     fn is_known<C: Catalogue>(&self, catalogue: &C) -> bool
@@ -79,7 +79,7 @@ impl Line {
         ensures { result ≡ hides (line_of self.now) action }
     {
         let port = action.unsigned_abs();
-        port <= 31 && self.hidden.contains(port as i8)
+        port <= LAST_PORT as u8 && self.hidden.contains(port as i8)
     }
 
     // The actions of a set that are not hidden.
@@ -87,7 +87,7 @@ impl Line {
         ensures { (a : ℤ) → has result a ≡ (not (hides (line_of self.now) a) && has set a) }
     {
         let mut out = ActionSet::empty();
-        // a loop, since a fold that inserts into a set is no plainer
+        // a loop, since a fold that inserts each action into a set says no more than this, and in more words
         for action in set.iter() {
             if !self.hides(action) {
                 out.insert(action);

@@ -7,7 +7,7 @@ ghost use Rattle.renaming.specs.Faults.{Made, LawOf};
 
 use super::super::fault::RenamingFault;
 use super::Renaming;
-use action::is_action;
+use action::{LAST_PORT, is_action};
 use std::array;
 
 // Whether a port may be sent to this number: an action, and not the internal event.
@@ -57,9 +57,8 @@ impl Renaming {
         ensures made { Made entries.now result }
         ensures law { LawOf entries.now }
     {
-        let Ok(copy) = <[i8; 31]>::try_from(entries) else {
-            return Err(RenamingFault::Length(entries.len()));
-        };
+        let copy = <[i8; LAST_PORT as usize]>::try_from(entries)
+            .map_err(|_| RenamingFault::Length(entries.len()))?;
         if let Some(i) = first_wrong(entries) {
             return Err(RenamingFault::Entry(i));
         }

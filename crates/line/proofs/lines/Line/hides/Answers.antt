@@ -8,7 +8,7 @@ use Rattle.line.proofs.lines.Line.hides.Goals as goal
 port : (a : ℤ) (p : ℕ) → SFits w8 a → p ≡ nat_abs (to_z w8 (of_z w8 a)) → p ≡ nat_abs a
 port a p f e = e ∙ ap nat_abs (to_z-of_z w8 a f)
 
-pub returns-else-port-le31 : goal.returns-else-port-le31
-returns-else-port-le31 c =
+pub returns-else-port : goal.returns-else-port
+returns-else-port c =
     let is = port c.args.action c.unsigned_abs-port.result c.ranges.action c.unsigned_abs-port.ensures.value in
-    lt-leb c.unsigned_abs-port.result 31 c.if-port-le31.false ∙ sym (has_far c.args.self.now.hidden (pos (nat_abs c.args.action)) (omega (arith, is, c.if-port-le31.false)))
+    lt-leb c.unsigned_abs-port.result 31 c.if-port.false ∙ sym (has_far c.args.self.now.hidden (pos (nat_abs c.args.action)) (omega (arith, is, c.if-port.false)))

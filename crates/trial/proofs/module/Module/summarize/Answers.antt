@@ -8,9 +8,9 @@ loop-round-init c = (refl, first_round c.args.self.now.places.now c.default-summ
 pub loop-round-preserved : goal.loop-round-preserved
 loop-round-preserved c =
     let full : length c.follow_on-summaries.result ≡ 256 = search rules in
-    (full, next_round c.args.self.now.places.now c.loop-round._round-index c.loop-round.summaries c.follow_on-summaries.result c.requires c.loop-round.invariant.1 c.follow_on-summaries.ensures)
+    (full, next_round c.args.self.now.places.now c.loop-round._round c.loop-round.summaries c.follow_on-summaries.result c.requires c.loop-round.invariant.1 c.follow_on-summaries.ensures)
 
 pub returns : goal.returns
 returns c =
-    let n : c.loop-round._round-index ≡ length c.args.self.now.places.now = omega (arith, c.loop-round.auto._round-index-end) in
+    let n : c.loop-round._round ≡ length c.args.self.now.places.now = omega (arith, c.loop-round.auto._round-end) in
     rw n at c.loop-round.invariant.1
