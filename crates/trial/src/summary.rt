@@ -7,7 +7,7 @@ use rows::Place;
 // Followed through no place nothing is known, which is the default.
 #[derive(Clone, Copy, Debug, Default, PartialEq, Eq)]
 pub struct Summary {
-    // a walk from the place through waits, sums and names ends
+    // a walk from the place through waits, sums and names ends; the rounds work out the other two beside it in any case
     pub guarded: bool,
     // its depth, 16 where it is more
     pub depth: u8,

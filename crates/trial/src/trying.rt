@@ -52,7 +52,9 @@ fn first_deep(summaries: &[Summary]) -> Option<usize>
 fn first_with_many_moves(summaries: &[Summary]) -> Option<usize>
     ensures { result ≡ position (λ s. not (nat_le s.moves most_moves)) summaries.now }
 {
-    summaries.iter().position(|summary| summary.moves as usize > MOST_MOVES)
+    summaries
+        .iter()
+        .position(|summary| summary.moves as usize > MOST_MOVES)
 }
 
 impl Module<'_> {

@@ -57,8 +57,9 @@ impl Renaming {
         ensures made { Made entries.now result }
         ensures law { LawOf entries.now }
     {
-        let copy = <[i8; LAST_PORT as usize]>::try_from(entries)
-            .map_err(|_| RenamingFault::Length(entries.len()))?;
+        let copy = <[i8; LAST_PORT as usize]>::try_from(entries).map_err(|_| RenamingFault::Length(
+            entries.len(),
+        ))?;
         if let Some(i) = first_wrong(entries) {
             return Err(RenamingFault::Entry(i));
         }

@@ -24,7 +24,7 @@ impl Renaming {
         &self.entries
     }
 
-    // What an action becomes. A number that is no action becomes the internal event.
+    // What an action becomes. A number that is no action becomes the internal event, as the rule of renamings has it.
     pub fn apply(self, action: i8) -> i8
         ensures { result ≡ renamed self.entries action }
     {
