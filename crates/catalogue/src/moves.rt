@@ -17,7 +17,7 @@ pub struct Moves<'a, C> {
 }
 
 impl<'a, C: Catalogue> Moves<'a, C> {
-    // The moves of a state of a module, in their order.
+    // The moves of a state of a module, in their order. The module and the code are what each question of a catalogue takes.
     pub fn of(catalogue: &'a C, part: usize, code: u32) -> Moves<'a, C>
         ensures { moves_to_come C.Catalogue.meaning result ≡ (state_in (C.Catalogue.meaning catalogue.now) part code).moves }
     {

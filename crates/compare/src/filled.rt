@@ -33,6 +33,7 @@ impl<'a> Filled<'a> {
     }
 
     // The row that holds a pair.
+    // Two codes, as each move and tick has one of them: a struct would be made and taken apart at each call.
     pub(crate) fn find(&self, new: u32, old: u32) -> Option<usize>
         ensures { MatchOption result (Absent self.now.rows.now self.now.count new old) (λ i. (i < self.now.count) × Is self.now.rows.now i new old) }
     {

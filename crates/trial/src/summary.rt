@@ -9,9 +9,9 @@ use rows::Place;
 pub struct Summary {
     // a walk from the place through waits, sums and names ends; the rounds work out the other two beside it in any case
     pub guarded: bool,
-    // its depth, 16 where it is more
+    // its depth, 16 where it is more, as the rules cut it
     pub depth: u8,
-    // its number of moves, 65 where it is more
+    // its number of moves, 65 where it is more, as the rules cut it
     pub moves: u8,
 }
 

@@ -19,7 +19,7 @@ pub struct SlotPlan<'a> {
     pub entries: &'a [i8],
 }
 
-// The set of the hidden ports, where all of them are ports.
+// The set of the hidden ports, where all of them are ports. A loop, since it ends at the first that is none.
 fn port_set(hidden: &[u8]) -> Option<ActionSet>
     ensures { Ported hidden.now result }
 {

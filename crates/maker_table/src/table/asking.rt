@@ -12,7 +12,7 @@ use action::ActionSet;
 use catalogue::{Catalogue, Move};
 use table_format::{StateRecord, action_of, pair_at};
 
-// The actions of the moves that are marked urgent.
+// The actions of the moves that are marked urgent. A loop, since a chain that ends in a set would be no shorter.
 fn marked_actions(moves: &[[u8; 4]]) -> ActionSet
     ensures { result ≡ set_of (marked (map entry_record moves.now)) }
 {

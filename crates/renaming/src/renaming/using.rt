@@ -32,7 +32,7 @@ impl Renaming {
         if action < 0 { -to } else { to }
     }
 
-    // What a set becomes: the set of what its actions become.
+    // What a set becomes: the set of what its actions become. A loop, since a chain that ends in a set would be no shorter.
     pub fn image(self, set: ActionSet) -> ActionSet
         ensures value { result ≡ image self.entries set }
         ensures means { (a : ℤ) → (result ∋ a) ↔ ((b : ℤ) × (set ∋ b) × (renamed self.entries b ≡ a)) }
