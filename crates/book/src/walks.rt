@@ -10,7 +10,7 @@ use rows::Place;
 
 impl Equations<'_> {
     // The urgent set of a place at an age. A place without moves has none; what is below it need not be walked.
-    pub fn urgent_at(&self, place: usize, age: u32) -> ActionSet
+    pub(crate) fn urgent_at(&self, place: usize, age: u32) -> ActionSet
         requires { place < length self.now.places.now }
         ensures { result ≡ urgent_of self.now.places.now place age }
     {
@@ -31,7 +31,7 @@ impl Equations<'_> {
     }
 
     // The move of a place with a number. The number of moves on the left tells the side of a sum.
-    pub fn move_at(&self, place: usize, number: usize) -> Option<Move>
+    pub(crate) fn move_at(&self, place: usize, number: usize) -> Option<Move>
         requires { place < length self.now.places.now }
         ensures { result ≡ nth (moves_of self.now.places.now place) number }
     {

@@ -32,7 +32,7 @@ fn offsets(heap: Global, bytes: &[u8], count: u16, from: usize) -> Result<Vec<u3
 }
 
 // The places of all modules of a table without a fault.
-pub fn places(heap: Global, bytes: &[u8]) -> Result<Vec<ModulePlace>, AllocError>
+pub(crate) fn places(heap: Global, bytes: &[u8]) -> Result<Vec<ModulePlace>, AllocError>
     requires { fault bytes.now ≡ None }
     ensures { IfOk result (λ found. map shown found.items ≡ places bytes.now) }
 {
