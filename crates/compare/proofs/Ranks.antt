@@ -13,20 +13,16 @@ use Rattle.pair_table.specs.Pairs.{Pair, pair, among}
 use Rattle.pair_table.specs.Rounds.{round, rank}
 use Rattle.pair_table.specs.Laws.{row}
 use Rattle.pair_table.proofs.Clause.{among_in, in_among}
-use Rattle.pair_table.proofs.Rounds.{falls_to, round_none, none_round, round_more, round_kept, kept_clauses, clauses_kept}
+use Rattle.pair_table.proofs.Rounds.{falls_to, round_none, round_more, round_kept, kept_clauses, clauses_kept}
 use Rattle.pair_table.proofs.Ranks.{rank_kept, rank_dropped}
 use Rattle.compare.specs.declared.ranking.Side.{Side}
 use Rattle.compare.specs.declared.ranking.Side.TheVariants.{New, Old}
 use Rattle.compare.specs.Rows.{Is, pair_of, pairs_of}
 use Rattle.compare.specs.Indexed.{Apart}
-use Rattle.compare.specs.Ranks.{PartnerBy, Partner, Modest, Lasts, Leaves, Sooner, Holds, Gone, GoneOne, TickHolds, TickGone, Steady, Fails, Judged, JudgedAll, JudgedTick, JudgedRow, Fair}
-use Rattle.compare.proofs.Rows.{in_row, row_in, length_pairs}
+use Rattle.compare.specs.Ranks.{PartnerBy, Partner, Modest, Lasts, Leaves, Sooner, Holds, Gone, GoneOne, TickHolds, TickGone, Steady, Fails, Judged, JudgedAll, JudgedTick, JudgedRow, Fair, Beyond, KeptTo, DoneTo, SteadyFrom}
+use Rattle.compare.proofs.Rows.{in_row, length_pairs}
 
 -- ── the rounds bear the ranks out ──
-
--- a row whose rank is not given, or lies beyond k
-abbrev Beyond : ℕ → ℕ → Type 0
-Beyond x k = (x ≡ 0) ⊎ (k < x)
 
 beyond_lasts : (x r k : ℕ) → Lasts x r → Beyond r (suc k) → Beyond x k
 beyond_lasts x r k (inl e) b = inl e
@@ -37,9 +33,12 @@ not_one : (r k : ℕ) → Beyond r (suc k) → r ≡ 1 → ⊥
 not_one r k (inl e) o = omega arith
 not_one r k (inr l) o = omega arith
 
+pub beyond_down : (r j k : ℕ) → j ≤ k → Beyond r k → Beyond r j
+beyond_down r j k m (inl e) = inl e
+beyond_down r j k m (inr l) = inr (omega arith)
+
 beyond_less : (r k : ℕ) → Beyond r (suc k) → Beyond r k
-beyond_less r k (inl e) = inl e
-beyond_less r k (inr l) = inr (omega arith)
+beyond_less r k b = beyond_down r k (suc k) (omega arith) b
 
 module _ (new old : Module) (pairs : List Pair) (rows : List PairRow) (n : ℕ) (fair : Fair new old pairs rows n) where
   abbrev In : ℕ → ℕ → ℕ → Type 0
@@ -84,19 +83,16 @@ module _ (new old : Module) (pairs : List Pair) (rows : List PairRow) (n : ℕ) 
       let c = kept_clauses new old (round new old pairs k) p q (round_kept new old pairs k p q i) in
       elim f [ inl g ↦ gone_forth k p q g c | inr x ↦ elim x [ inl g ↦ gone_back k p q g c | inr g ↦ gone_tick k p q g c ] ]
 
-  abbrev AllSteady : Type 0
-  AllSteady = (i : ℕ) → i < n → Steady new old rows n (row rows i).new (row rows i).old (row rows i).rank
-
-  abbrev KeptTo : ℕ → Type 0
-  KeptTo k = (j : ℕ) → j < n → Beyond (row rows j).rank k → pair_of (row rows j) ∈ round new old pairs k
+  abbrev Kept : ℕ → Type 0
+  Kept k = KeptTo new old pairs rows n k
 
   -- a partner that lasts beyond round k is in it
-  lasts_in : (k r j p q : ℕ) → KeptTo k → Beyond r (suc k) → j < n → Is rows j p q → Lasts (row rows j).rank r → T (among (round new old pairs k) p q)
+  lasts_in : (k r j p q : ℕ) → Kept k → Beyond r (suc k) → j < n → Is rows j p q → Lasts (row rows j).rank r → T (among (round new old pairs k) p q)
   lasts_in k r j p q ih b l e t =
       in_among (round new old pairs k) p q
       (subst (λ (x : ℕ). pair x q ∈ round new old pairs k) e.0 (subst (λ (y : ℕ). pair (row rows j).new y ∈ round new old pairs k) e.1 (ih j l (beyond_lasts (row rows j).rank r k t b))))
 
-  steady_clauses : (k p q r : ℕ) → KeptTo k → Beyond r (suc k) → Steady new old rows n p q r → Clauses (running new) (running old) (among (round new old pairs k)) p q
+  steady_clauses : (k p q r : ℕ) → Kept k → Beyond r (suc k) → Steady new old rows n p q r → Clauses (running new) (running old) (among (round new old pairs k)) p q
   steady_clauses k p q r ih b s = record {
     forth = λ a d m. elim (s.forth (move a d) m) [
       | inl one ↦ absurd (not_one r k b one)
@@ -118,20 +114,28 @@ module _ (new old : Module) (pairs : List Pair) (rows : List PairRow) (n : ℕ) 
     ];
   }
 
-  -- where every row is steady, a round keeps each row whose rank is not given or lies beyond it
-  steady_keeps : AllSteady → (k : ℕ) → KeptTo k
-  steady_keeps s zero i l b = none_round new old pairs (pair_of (row rows i)) (subst (λ (ps : List Pair). pair_of (row rows i) ∈ ps) fair.held (row_in n rows i l fair.within))
-  steady_keeps s (suc k) i l b =
-      round_more new old pairs k (row rows i).new (row rows i).old (steady_keeps s k i l (beyond_less (row rows i).rank k b))
-      (clauses_kept new old (round new old pairs k) (row rows i).new (row rows i).old (steady_clauses k (row rows i).new (row rows i).old (row rows i).rank (λ j. steady_keeps s k j) b (s i l)))
+  -- so the next round keeps a steady pair, where its rank lies beyond it
+  pub steady_next : (k p q r : ℕ) → Kept k → Beyond r (suc k) → In k p q → Steady new old rows n p q r → In (suc k) p q
+  steady_next k p q r b t i s =
+      round_more new old pairs k p q i (clauses_kept new old (round new old pairs k) p q (steady_clauses k p q r b t s))
+
+  -- Where the rows that the first rounds leave are steady, a round keeps each row whose rank is not given or lies beyond it.
+  steady_keeps : (done : ℕ) → DoneTo new old pairs rows n done → SteadyFrom new old rows n done 0 → (k : ℕ) → Kept k
+  steady_keeps done d s zero = d 0 (omega arith)
+  steady_keeps done d s (suc k) = elim (cases_lt k done) [
+    | inl l ↦ d (suc k) (omega arith)
+    | inr g ↦ (λ i l b. steady_next k (row rows i).new (row rows i).old (row rows i).rank (steady_keeps done d s k) b
+        (steady_keeps done d s k i l (beyond_less (row rows i).rank k b)) (s i (omega arith) l (beyond_down (row rows i).rank done (suc k) (omega arith) b)))
+  ]
 
   -- so its rank is that of the rounds
-  pub steady_ranked : AllSteady → (i : ℕ) → i < n → (row rows i).rank ≡ rank new old pairs (pair_of (row rows i))
-  steady_ranked s i l = elim (cases_eq (row rows i).rank 0) [
-    | inl e ↦ e ∙ sym (rank_kept new old pairs (row rows i).new (row rows i).old (λ k. steady_keeps s k i l (inl e)))
+  pub steady_ranked : (done : ℕ) → DoneTo new old pairs rows n done → SteadyFrom new old rows n done 0
+      → (i : ℕ) → i < n → (row rows i).rank ≡ rank new old pairs (pair_of (row rows i))
+  steady_ranked done d s i l = elim (cases_eq (row rows i).rank 0) [
+    | inl e ↦ e ∙ sym (rank_kept new old pairs (row rows i).new (row rows i).old (λ k. steady_keeps done d s k i l (inl e)))
     | inr ne ↦ sym (rank_dropped new old pairs (row rows i).new (row rows i).old (row rows i).rank (omega arith)
         (omega (arith, fair.bounded i l, ap length fair.held, length_pairs n rows fair.within))
-        (λ k h. steady_keeps s k i l (inr h)) (fair.sound i l (omega arith)))
+        (λ k h. steady_keeps done d s k i l (inr h)) (fair.sound i l (omega arith)))
   ]
 
 -- ── the loop over the others ──

@@ -2,7 +2,7 @@
 use Rattle.std.proofs.Common.{◌≡◌, ℕ, zero, suc, ◌+◌, ◌-◌, ◌^◌, ◌<◌, ◌≤◌, Bool, true, false, cond, eqb, ◌⊎◌, List, [], ◌∷◌, map, length, get_or, take, set, sym, refl, ap, ◌∙◌, subst, inl, inr, arith}
 use lib.ListN.{get_or-map}
 use Rattle.std.proofs.lemmas.List.{get_or-set_same, get_or-set_other, length-map, drop-set-lt}
-use Rattle.std.proofs.lemmas.Bool.{cases_eq, ne_eqb, eq-eqb}
+use Rattle.std.proofs.lemmas.Bool.{cases_eq, cases_lt, ne_eqb, eq-eqb}
 use Rattle.action.specs.Lists.{◌∈◌}
 use Rattle.catalogue.specs.declared.Move.{Move}
 use Rattle.catalogue.specs.Catalogue.{Module}
@@ -10,14 +10,16 @@ use Rattle.pair_table.specs.declared.PairRow.{PairRow}
 use Rattle.pair_table.specs.Pairs.{Pair, pair, most_rows}
 use Rattle.pair_table.specs.Rounds.{round, rank}
 use Rattle.pair_table.specs.Laws.{row}
+use Rattle.pair_table.proofs.Rounds.{falls_to, none_round}
 use Rattle.compare.specs.declared.index.Index.{Index}
 use Rattle.compare.specs.declared.ranking.Side.{Side}
 use Rattle.compare.specs.declared.ranking.Side.TheVariants.{New, Old}
 use Rattle.compare.specs.Rows.{pair_of, pairs_of}
 use Rattle.compare.specs.Indexed.{Indexed, Last, bucket_of, row_bucket}
 use Rattle.compare.specs.Growth.{Unranked}
-use Rattle.compare.specs.Ranks.{Modest, Lasts, Sooner, HoldsAll, GoneOne, TickHolds, TickGone, Steady, Fails, JudgedRow, total, missing, unranked, heavy, weight, Fair, Alike, Swept}
-use Rattle.compare.proofs.Ranks.{fails_sound, steady_ranked}
+use Rattle.compare.specs.Ranks.{Modest, Lasts, Sooner, HoldsAll, GoneOne, TickHolds, TickGone, Steady, Fails, JudgedRow, total, missing, unranked, heavy, weight, Fair, Alike, Beyond, DoneTo, Swept}
+use Rattle.compare.proofs.Ranks.{fails_sound, beyond_down, steady_next, steady_ranked}
+use Rattle.compare.proofs.Rows.{row_in}
 
 -- ── rows with the same pairs ──
 
@@ -121,6 +123,14 @@ falls_by x r (inr s) ne l =
     let q : r < x = (elim (cases_eq r x) [ inl e ↦ absurd (ne e) | inr n ↦ omega arith ]) in
     (s.0, omega (arith, heavy_some x (omega arith), heavy_some r s.0))
 
+none_beyond : (x k : ℕ) → 0 < x → x ≤ k → Beyond x k → ⊥
+none_beyond x k a b (inl e) = omega arith
+none_beyond x k a b (inr l) = omega arith
+
+pub beyond_else : (x k : ℕ) → ((0 < x) × (k < x)) ⊎ (x ≤ 0) → Beyond x k
+beyond_else x k (inl h) = inr h.1
+beyond_else x k (inr z) = inl (omega arith)
+
 -- a round that drops a row comes right after one that drops a partner, or is the first
 abbrev Next : List PairRow → ℕ → ℕ → Type 0
 Next t n r = (r ≡ 1) ⊎ ((j : ℕ) × ((j < n) × (r ≤ (row t j).rank + 1) × (0 < (row t j).rank)))
@@ -194,40 +204,103 @@ module _ (new old : Module) (pairs : List Pair) (n : ℕ) where
 
   -- ── a sweep ──
 
-  pub swept_pass : (t₀ t : List PairRow) (i r : ℕ) (fell : Bool) → 0 < i → r ≡ (row t (i - 1)).rank
+  -- one row more
+  from_here : (P : ℕ → Type 0) (i : ℕ) → 0 < i → ((j : ℕ) → i ≤ j → j < n → P j) → P (i - 1) → (j : ℕ) → i - 1 ≤ j → j < n → P j
+  from_here P i l f p j a b = elim (cases_eq j (i - 1)) [ inl e ↦ subst P (sym e) p | inr ne ↦ f j (omega arith) b ]
+
+  -- a row that has its rank for good is passed over
+  pub swept_over : (t₀ t : List PairRow) (done i : ℕ) (fell : Bool) → 0 < i → 0 < (row t (i - 1)).rank → (row t (i - 1)).rank ≤ done
+      → Swept new old pairs t₀ t n done i fell → Swept new old pairs t₀ t n done (i - 1) fell
+  swept_over t₀ t done i fell l a b s =
+      record {
+        fair = s.fair;
+        alike = s.alike;
+        lower = s.lower;
+        falls = s.falls;
+        kept = s.kept;
+        next = from_here (λ j. Beyond (row t j).rank (suc done) → pair_of (row t j) ∈ round new old pairs (suc done)) i l s.next
+            (λ z. absurd (none_beyond (row t (i - 1)).rank (suc done) a (omega (arith, b)) z));
+        same = λ f. from_here (λ j. Beyond (row t j).rank done → Steady new old t n (row t j).new (row t j).old (row t j).rank) i l (s.same f)
+            (λ z. absurd (none_beyond (row t (i - 1)).rank done a b z));
+      }
+
+  pub swept_pass : (t₀ t : List PairRow) (done i r : ℕ) (fell : Bool) → 0 < i → i ≤ n → r ≡ (row t (i - 1)).rank
       → JudgedRow new old t n (row t (i - 1)).new (row t (i - 1)).old (row t (i - 1)).rank r
-      → Swept new old pairs t₀ t n i fell → Swept new old pairs t₀ t n (i - 1) fell
-  swept_pass t₀ t i r fell l e j s =
+      → Swept new old pairs t₀ t n done i fell → Swept new old pairs t₀ t n done (i - 1) fell
+  swept_pass t₀ t done i r fell l le e j s =
       let here : Steady new old t n (row t (i - 1)).new (row t (i - 1)).old (row t (i - 1)).rank = subst (λ (x : ℕ). Steady new old t n (row t (i - 1)).new (row t (i - 1)).old x) e j.steady in
       record {
         fair = s.fair;
         alike = s.alike;
         lower = s.lower;
         falls = s.falls;
-        same = λ f m a b. elim (cases_eq m (i - 1)) [
-          | inl em ↦ subst (λ (x : ℕ). Steady new old t n (row t x).new (row t x).old (row t x).rank) (sym em) here
-          | inr nm ↦ s.same f m (omega arith) b
-        ];
+        kept = s.kept;
+        next = from_here (λ j. Beyond (row t j).rank (suc done) → pair_of (row t j) ∈ round new old pairs (suc done)) i l s.next
+            (λ z. steady_next new old pairs t n s.fair done (row t (i - 1)).new (row t (i - 1)).old (row t (i - 1)).rank (s.kept done (omega arith)) z
+            (s.kept done (omega arith) (i - 1) (omega arith) (beyond_down (row t (i - 1)).rank done (suc done) (omega arith) z)) here);
+        same = λ f. from_here (λ j. Beyond (row t j).rank done → Steady new old t n (row t j).new (row t j).old (row t j).rank) i l (s.same f) (λ _. here);
       }
 
-  pub swept_write : (t₀ t : List PairRow) (i r : ℕ) (fell : Bool) → 0 < i → i ≤ n → (r ≡ (row t (i - 1)).rank → ⊥) → r < 2 ^ 32
+  -- a round keeps the same pairs, whatever rank is written
+  carried : (t : List PairRow) (i r k j : ℕ) → i < n → pair_of (row t j) ∈ round new old pairs k → pair_of (row (with t i r) j) ∈ round new old pairs k
+  carried t i r k j l h = subst (λ (x : Pair). x ∈ round new old pairs k) (sym (pair_alike t (with t i r) n j (alike_write t n i r l))) h
+
+  kept_write : (t : List PairRow) (done i r : ℕ) → i < n → Beyond (row t i).rank done → DoneTo new old pairs t n done → DoneTo new old pairs (with t i r) n done
+  kept_write t done i r l v k m lm j lj z = elim (cases_eq j i) [
+    | inl e ↦ carried t i r m j l (subst (λ (x : ℕ). pair_of (row t x) ∈ round new old pairs m) (sym e) (falls_to new old pairs m done (pair_of (row t i)) lm (k done (omega arith) i l v)))
+    | inr ne ↦ carried t i r m j l (k m lm j lj (subst (λ (x : ℕ). Beyond x m) (rank_that t i r j ne) z))
+  ]
+
+  pub swept_write : (t₀ t : List PairRow) (done i r : ℕ) (fell : Bool) → 0 < i → i ≤ n → (r ≡ (row t (i - 1)).rank → ⊥) → r < 2 ^ 32
+      → Beyond (row t (i - 1)).rank done
       → JudgedRow new old t n (row t (i - 1)).new (row t (i - 1)).old (row t (i - 1)).rank r
-      → Swept new old pairs t₀ t n i fell
-      → Swept new old pairs t₀ (set t (i - 1) (record { new = (row t (i - 1)).new; old = (row t (i - 1)).old; rank = r })) n (i - 1) true
-  swept_write t₀ t i r fell l le ne lr j s =
+      → Swept new old pairs t₀ t n done i fell
+      → Swept new old pairs t₀ (set t (i - 1) (record { new = (row t (i - 1)).new; old = (row t (i - 1)).old; rank = r })) n done (i - 1) true
+  swept_write t₀ t done i r fell l le ne lr v j s =
       let w = fair_write t (i - 1) r (omega arith) (λ e. ne (sym e)) lr j s.fair in
       record {
         fair = w.0;
         alike = alike_on t₀ t _ n s.alike (alike_write t n (i - 1) r (omega arith));
         lower = omega (arith, w.1, s.lower);
         falls = λ _. omega (arith, w.1, s.lower);
+        kept = kept_write t done (i - 1) r (omega arith) v s.kept;
+        next = from_here (λ j. Beyond (row (with t (i - 1) r) j).rank (suc done) → pair_of (row (with t (i - 1) r) j) ∈ round new old pairs (suc done)) i l
+            (λ j a b z. carried t (i - 1) r (suc done) j (omega arith) (s.next j a b (subst (λ (x : ℕ). Beyond x (suc done)) (rank_that t (i - 1) r j (λ x. omega arith)) z)))
+            (λ z. carried t (i - 1) r (suc done) (i - 1) (omega arith) (steady_next new old pairs t n s.fair done (row t (i - 1)).new (row t (i - 1)).old r (s.kept done (omega arith))
+            (subst (λ (x : ℕ). Beyond x (suc done)) (rank_this t (i - 1) r (omega (arith, s.fair.within))) z) (s.kept done (omega arith) (i - 1) (omega arith) v) j.steady));
         same = λ e. absurd (let z : ◌≡◌ {A = ℕ} 0 1 = cc in omega arith);
       }
 
-  pub settled : (all : List Pair) (t₀ t : List PairRow) (fell : Bool) → pairs ≡ all → fell ≡ false → Swept new old pairs t₀ t n 0 fell
+  -- a sweep is done with one round more
+  pub swept_more : (t₀ t : List PairRow) (done k : ℕ) (fell : Bool) → k ≤ done + 1 → Swept new old pairs t₀ t n done 0 fell → DoneTo new old pairs t n k
+  swept_more t₀ t done k fell l s m lm j lj z = elim (cases_lt done m) [
+    | inl a ↦ (let e : m ≡ suc done = omega arith in
+        subst (λ (x : ℕ). pair_of (row t j) ∈ round new old pairs x) (sym e) (s.next j (omega arith) lj (subst (λ (x : ℕ). Beyond (row t j).rank x) e z)))
+    | inr a ↦ s.kept m a j lj z
+  ]
+
+  pub settled : (all : List Pair) (t₀ t : List PairRow) (done : ℕ) (fell : Bool) → pairs ≡ all → fell ≡ false → Swept new old pairs t₀ t n done 0 fell
       → (i : ℕ) → i < n → (row t i).rank ≡ rank new old all (pair_of (row t i))
-  settled all t₀ t fell h e s i l =
-      steady_ranked new old pairs t n s.fair (λ j m. s.same e j (omega arith) m) i l ∙ ap (λ (ps : List Pair). rank new old ps (pair_of (row t i))) h
+  settled all t₀ t done fell h e s i l =
+      steady_ranked new old pairs t n s.fair done s.kept (s.same e) i l ∙ ap (λ (ps : List Pair). rank new old ps (pair_of (row t i))) h
+
+  -- round 0 is done with before the first sweep
+  pub done_start : (t : List PairRow) → n ≤ length t → pairs_of n t ≡ pairs → DoneTo new old pairs t n 0
+  done_start t w h m lm j lj z =
+      let e : m ≡ 0 = omega arith in
+      subst (λ (x : ℕ). pair_of (row t j) ∈ round new old pairs x) (sym e)
+      (none_round new old pairs (pair_of (row t j)) (subst (λ (ps : List Pair). pair_of (row t j) ∈ ps) h (row_in n t j lj w)))
+
+-- what the loop over the sweeps keeps
+pub settle_step : (new old : Module) (pairs all : List Pair) (t₀ t u : List PairRow) (n m k done next : ℕ) (fell : Bool) → pairs ≡ all → m ≡ n → k ≡ m → next ≤ done + 1
+    → Alike t₀ t n → Swept new old pairs t u m done 0 fell → Fair new old all u k × DoneTo new old all u k next × Alike t₀ u n
+settle_step new old pairs all t₀ t u n m k done next fell h en ek l a s =
+    let fair : Fair new old all u m = subst (λ (ps : List Pair). Fair new old ps u m) h s.fair in
+    let more : DoneTo new old all u m next = subst (λ (ps : List Pair). DoneTo new old ps u m next) h (swept_more new old pairs m t u done next fell l s) in (
+      subst (λ (x : ℕ). Fair new old all u x) (sym ek) fair,
+      subst (λ (x : ℕ). DoneTo new old all u x next) (sym ek) more,
+      alike_on t₀ t u n a (subst (λ (x : ℕ). Alike t u x) en s.alike),
+    )
 
 -- no rank is given before the first sweep
 missing_le : (b : Bool) → cond b 1 0 ≤ 1

@@ -130,13 +130,30 @@ pub record Alike (before after : List PairRow) (n : ℕ) : Type 0 where
   pub pairs : map pair_of after ≡ map pair_of before
   pub rest : drop n after ≡ drop n before
 
-abbrev pub SteadyFrom : Module → Module → List PairRow → (n i : ℕ) → Type 0
-SteadyFrom new old rows n i = (j : ℕ) → i ≤ j → j < n → Steady new old rows n (row rows j).new (row rows j).old (row rows j).rank
+-- a rank that is not given, or lies beyond round k
+abbrev pub Beyond : ℕ → ℕ → Type 0
+Beyond x k = (x ≡ 0) ⊎ (k < x)
 
--- a sweep from the last row down to row i; `fell` says that some rank fell
-pub record Swept (new old : Module) (pairs : List Pair) (before after : List PairRow) (n i : ℕ) (fell : Bool) : Type 0 where
+-- round k keeps those rows whose rank is not given or lies beyond it
+abbrev pub KeptTo : Module → Module → List Pair → List PairRow → (n k : ℕ) → Type 0
+KeptTo new old pairs rows n k = (j : ℕ) → j < n → Beyond (row rows j).rank k → pair_of (row rows j) ∈ round new old pairs k
+
+-- each row that a round up to k drops has the number of that round as its rank
+abbrev pub DoneTo : Module → Module → List Pair → List PairRow → (n k : ℕ) → Type 0
+DoneTo new old pairs rows n k = (m : ℕ) → m ≤ k → KeptTo new old pairs rows n m
+
+-- the rows from row i on that no round up to `done` drops are steady
+abbrev pub SteadyFrom : Module → Module → List PairRow → (n done i : ℕ) → Type 0
+SteadyFrom new old rows n done i =
+    (j : ℕ) → i ≤ j → j < n → Beyond (row rows j).rank done → Steady new old rows n (row rows j).new (row rows j).old (row rows j).rank
+
+-- A sweep from the last row down to row i, after `done` sweeps, each of which was done with one round more; `fell` says that
+-- some rank fell.
+pub record Swept (new old : Module) (pairs : List Pair) (before after : List PairRow) (n done i : ℕ) (fell : Bool) : Type 0 where
   pub fair : Fair new old pairs after n
   pub alike : Alike before after n
   pub lower : weight after n ≤ weight before n
   pub falls : fell ≡ true → weight after n < weight before n
-  pub same : fell ≡ false → SteadyFrom new old after n i
+  pub kept : DoneTo new old pairs after n done
+  pub next : (j : ℕ) → i ≤ j → j < n → Beyond (row after j).rank (suc done) → pair_of (row after j) ∈ round new old pairs (suc done)
+  pub same : fell ≡ false → SteadyFrom new old after n done i

@@ -1,14 +1,15 @@
 use Rattle.std.proofs.Common.{◌≡◌}
 use Rattle.compare.specs.Growth.{pairs_in}
-use Rattle.compare.specs.Ranks.{Alike, Fair, weight}
+use Rattle.compare.specs.Ranks.{Alike, DoneTo, Fair, weight}
 use Rattle.compare.proofs.filled.Filled.settle.Given as goal
 
-abbrev pub invariant-loop : goal.invariant-loop
-invariant-loop g l =
+abbrev pub invariant-loop-done : goal.invariant-loop-done
+invariant-loop-done g l =
     (l.self.rows.ghost_name ≡ l.initial.self.rows.ghost_name)
     × (l.self.count ≡ l.initial.self.count)
     × Fair l.modules.new l.modules.old (pairs_in l.initial.self) l.self.rows.now l.self.count
+    × DoneTo l.modules.new l.modules.old (pairs_in l.initial.self) l.self.rows.now l.self.count l.done
     × Alike l.initial.self.rows.now l.self.rows.now l.initial.self.count
 
-abbrev pub decreases-loop : goal.decreases-loop
-decreases-loop g l = weight l.self.rows.now l.self.count
+abbrev pub decreases-loop-done : goal.decreases-loop-done
+decreases-loop-done g l = weight l.self.rows.now l.self.count
