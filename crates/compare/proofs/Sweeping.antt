@@ -15,7 +15,7 @@ use Rattle.compare.specs.declared.index.Index.{Index}
 use Rattle.compare.specs.declared.ranking.Side.{Side}
 use Rattle.compare.specs.declared.ranking.Side.TheVariants.{New, Old}
 use Rattle.compare.specs.Rows.{pair_of, pairs_of}
-use Rattle.compare.specs.Indexed.{Indexed, Last, bucket_of, row_bucket}
+use Rattle.compare.specs.Indexed.{Alone, Indexed, Last, bucket_of, row_bucket}
 use Rattle.compare.specs.Growth.{Unranked}
 use Rattle.compare.specs.Ranks.{Modest, Lasts, Sooner, HoldsAll, GoneOne, TickHolds, TickGone, Steady, Fails, JudgedRow, total, missing, unranked, heavy, weight, Fair, Alike, Beyond, DoneTo, Swept}
 use Rattle.compare.proofs.Ranks.{fails_sound, beyond_down, steady_next, steady_ranked}
@@ -29,15 +29,15 @@ pair_alike t u n j a = sym (get_or-map pair_of u j _) ∙ ap (λ (ps : List Pair
 pub long_alike : (t u : List PairRow) (n : ℕ) → Alike t u n → length u ≡ length t
 long_alike t u n a = sym (length-map u pair_of) ∙ ap length a.pairs ∙ length-map t pair_of
 
-bucket_alike : (t u : List PairRow) (n j : ℕ) → Alike t u n → row_bucket u j ≡ row_bucket t j
-bucket_alike t u n j a = ap (λ (x : Pair). bucket_of x.new x.old) (pair_alike t u n j a)
+bucket_alike : (s : ℕ) (t u : List PairRow) (n j : ℕ) → Alike t u n → row_bucket s u j ≡ row_bucket s t j
+bucket_alike s t u n j a = ap (λ (x : Pair). bucket_of s x.new x.old) (pair_alike t u n j a)
 
-last_alike : (t u : List PairRow) (n b m link : ℕ) → Alike t u n → Last t b m link → Last u b m link
-last_alike t u n b m link a k =
+last_alike : (s : ℕ) (t u : List PairRow) (n b m link : ℕ) → Alike t u n → Last s t b m link → Last s u b m link
+last_alike s t u n b m link a k =
     record {
       within = k.within;
-      hits = λ l. bucket_alike t u n (link - 1) a ∙ k.hits l;
-      skips = λ j x y e. k.skips j x y (sym (bucket_alike t u n j a) ∙ e);
+      hits = λ l. bucket_alike s t u n (link - 1) a ∙ k.hits l;
+      skips = λ j x y e. k.skips j x y (sym (bucket_alike s t u n j a) ∙ e);
     }
 
 indexed_alike : (index : Index) (t u : List PairRow) (n : ℕ) → Alike t u n → Indexed index t n → Indexed index u n
@@ -45,13 +45,14 @@ indexed_alike index t u n a k =
     let new : (j : ℕ) → (row u j).new ≡ (row t j).new = λ j. ap (λ (x : Pair). x.new) (pair_alike t u n j a) in
     let old : (j : ℕ) → (row u j).old ≡ (row t j).old = λ j. ap (λ (x : Pair). x.old) (pair_alike t u n j a) in
     record {
-      heads = λ b l. last_alike t u n b n _ a (k.heads b l);
-      nexts = λ i l. subst (λ (b : ℕ). Last u b i (get_or index.next i 0)) (sym (bucket_alike t u n i a)) (last_alike t u n _ i _ a (k.nexts i l));
+      heads = λ b l. last_alike index.spread t u n b n _ a (k.heads b l);
+      nexts = λ i l. subst (λ (b : ℕ). Last index.spread u b i (get_or index.next i 0)) (sym (bucket_alike index.spread t u n i a)) (last_alike index.spread t u n _ i _ a (k.nexts i l));
       buckets = k.buckets;
       links = k.links;
       within = omega (arith, k.within, long_alike t u n a);
       few = k.few;
       apart = λ i j li lj en eo. k.apart i j li lj (sym (new i) ∙ en ∙ new j) (sym (old i) ∙ eo ∙ old j);
+      exact = λ e i l. subst (λ (x : Pair). Alone index.spread x.new x.old) (sym (pair_alike t u n i a)) (k.exact e i l);
     }
 
 pub alike_on : (t u v : List PairRow) (n : ℕ) → Alike t u n → Alike u v n → Alike t v n

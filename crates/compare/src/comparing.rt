@@ -7,7 +7,7 @@ ghost use Rattle.pair_table.specs.Laws.{Judges, Refuses, Ordered};
 ghost use Rattle.pair_table.specs.Cases.{Worked};
 
 use crate::filled::Filled;
-use crate::index::Index;
+use crate::index::{Index, spread};
 use crate::modules::Modules;
 use crate::moves::PairMoves;
 use catalogue::Catalogue;
@@ -31,7 +31,9 @@ pub fn compare<C: Catalogue>(
     let p = catalogue.start(new).ok_or(CompareFault::UnknownNew)?;
     let modules = Modules::of(catalogue, new, old);
     let mut moves = PairMoves::none();
-    let mut index = Index::empty();
+    let news = catalogue.codes(new).unwrap_or(0);
+    let olds = catalogue.codes(old).unwrap_or(0);
+    let mut index = Index::empty(spread(news, olds));
     let mut filled = Filled::none(table, &mut index);
     filled.admit(p, q)?;
     filled.explore(&modules, &mut moves)?;

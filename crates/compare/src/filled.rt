@@ -4,7 +4,7 @@ ghost use Rattle.compare.specs.Rows.{Is, Absent};
 ghost use Rattle.compare.specs.Indexed.{Indexed};
 ghost use Rattle.compare.specs.Ranks.{Modest};
 
-use crate::index::{Index, bucket, linked};
+use crate::index::{Index, linked};
 use pair_table::PairRow;
 
 #[derive(Drop)]
@@ -39,7 +39,10 @@ impl<'a> Filled<'a> {
     {
         // A view of its own, since an array that lies behind two references cannot be read in place.
         let index: &Index = self.index;
-        let mut link = index.heads[bucket(new, old)];
+        let mut link = index.heads[index.bucket(new, old)];
+        if index.exact && index.is_alone(new, old) {
+            return linked(link);
+        }
         while let Some(row) = linked(link) {
             let held = self.rows[row];
             if held.new == new && held.old == old {

@@ -20,7 +20,7 @@ invariant_of-self c =
     record {
       indexed = indexed_more c.args.self.now.index.now c.link.new.self c.args.self.now.rows.now c.args.self.now.count c.args.new c.args.old c.args.self.now.indexed
           c.if-self.false c.if-self-ge-MOST_ROWS.false (not_found c.args.self.now c.args.new c.args.old c.find.result (search rules) c.find.ensures)
-          c.link.ensures.heads c.link.ensures.next;
+          c.link.ensures.spread c.link.ensures.exact c.link.ensures.heads c.link.ensures.next;
       modest = modest_more _ _ _ _ (omega arith) c.args.self.now.modest;
     }
 
