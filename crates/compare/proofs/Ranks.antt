@@ -19,7 +19,7 @@ use Rattle.compare.specs.declared.ranking.Side.{Side}
 use Rattle.compare.specs.declared.ranking.Side.TheVariants.{New, Old}
 use Rattle.compare.specs.Rows.{Is, pair_of, pairs_of}
 use Rattle.compare.specs.Indexed.{Apart}
-use Rattle.compare.specs.Ranks.{PartnerBy, Partner, Modest, Lasts, Leaves, Sooner, Holds, Gone, GoneOne, TickHolds, TickGone, Steady, Fails, Judged, JudgedAll, JudgedTick, JudgedRow, Fair, Beyond, KeptTo, DoneTo, SteadyFrom}
+use Rattle.compare.specs.Ranks.{PartnerBy, Partner, Modest, Lasts, Leaves, Sooner, Holds, Gone, GoneOne, TickHolds, TickGone, Steady, Fails, Judged, JudgedAll, JudgedTick, JudgedRow, Fair, Hurries, Beyond, KeptTo, DoneTo, SteadyFrom}
 use Rattle.compare.proofs.Rows.{in_row, length_pairs}
 
 -- ── the rounds bear the ranks out ──
@@ -118,6 +118,10 @@ module _ (new old : Module) (pairs : List Pair) (rows : List PairRow) (n : ℕ) 
   pub steady_next : (k p q r : ℕ) → Kept k → Beyond r (suc k) → In k p q → Steady new old rows n p q r → In (suc k) p q
   steady_next k p q r b t i s =
       round_more new old pairs k p q i (clauses_kept new old (round new old pairs k) p q (steady_clauses k p q r b t s))
+
+  -- what of clause 3 no rank can alter holds of the rows that round 1 keeps
+  pub kept_hurries : (p q : ℕ) → In 1 p q → Hurries new old p q
+  kept_hurries p q i p' e = has_within (state old q).urgent (state new p).urgent ((kept_clauses new old (round new old pairs 0) p q (round_kept new old pairs 0 p q i)).hurry p' e)
 
   -- Where the rows that the first rounds leave are steady, a round keeps each row whose rank is not given or lies beyond it.
   steady_keeps : (done : ℕ) → DoneTo new old pairs rows n done → SteadyFrom new old rows n done 0 → (k : ℕ) → Kept k

@@ -1,5 +1,5 @@
 -- A sweep lowers ranks and keeps them fair, and where none falls every row is steady. Assumes nothing.
-use Rattle.std.proofs.Common.{◌≡◌, ℕ, zero, suc, ◌+◌, ◌-◌, ◌^◌, ◌<◌, ◌≤◌, Bool, true, false, cond, eqb, ◌⊎◌, List, [], ◌∷◌, map, length, get_or, take, set, sym, refl, ap, ◌∙◌, subst, inl, inr, arith}
+use Rattle.std.proofs.Common.{◌≡◌, ℕ, zero, suc, ◌+◌, ◌-◌, ◌^◌, ◌<◌, ◌≤◌, min, Bool, true, false, cond, eqb, ◌⊎◌, Some, None, Option, unwrap_or, MatchOption, List, [], ◌∷◌, map, length, get_or, take, set, sym, refl, ap, ◌∙◌, subst, inl, inr, arith}
 use lib.ListN.{get_or-map}
 use Rattle.std.proofs.lemmas.List.{get_or-set_same, get_or-set_other, length-map, drop-set-lt}
 use Rattle.std.proofs.lemmas.Bool.{cases_eq, cases_lt, ne_eqb, eq-eqb}
@@ -10,15 +10,15 @@ use Rattle.pair_table.specs.declared.PairRow.{PairRow}
 use Rattle.pair_table.specs.Pairs.{Pair, pair, most_rows}
 use Rattle.pair_table.specs.Rounds.{round, rank}
 use Rattle.pair_table.specs.Laws.{row}
-use Rattle.pair_table.proofs.Rounds.{falls_to, none_round}
+use Rattle.pair_table.proofs.Rounds.{none_round}
 use Rattle.compare.specs.declared.index.Index.{Index}
 use Rattle.compare.specs.declared.ranking.Side.{Side}
 use Rattle.compare.specs.declared.ranking.Side.TheVariants.{New, Old}
 use Rattle.compare.specs.Rows.{pair_of, pairs_of}
 use Rattle.compare.specs.Indexed.{Alone, Indexed, Last, bucket_of, row_bucket}
 use Rattle.compare.specs.Growth.{Unranked}
-use Rattle.compare.specs.Ranks.{Modest, Lasts, Sooner, HoldsAll, GoneOne, TickHolds, TickGone, Steady, Fails, JudgedRow, total, missing, unranked, heavy, weight, Fair, Alike, Beyond, DoneTo, Swept}
-use Rattle.compare.proofs.Ranks.{fails_sound, beyond_down, steady_next, steady_ranked}
+use Rattle.compare.specs.Ranks.{Modest, Lasts, Sooner, HoldsAll, GoneOne, TickHolds, TickGone, Steady, Fails, JudgedRow, total, missing, unranked, heavy, weight, Fair, Alike, Hurries, Beyond, DoneTo, AtLeast, Swept}
+use Rattle.compare.proofs.Ranks.{fails_sound, beyond_down, steady_next, kept_hurries, steady_ranked}
 use Rattle.compare.proofs.Rows.{row_in}
 
 -- ── rows with the same pairs ──
@@ -128,6 +128,23 @@ none_beyond : (x k : ℕ) → 0 < x → x ≤ k → Beyond x k → ⊥
 none_beyond x k a b (inl e) = omega arith
 none_beyond x k a b (inr l) = omega arith
 
+-- a rank that was sooner lowered lay beyond as many rounds
+beyond_before : (x r k : ℕ) → Sooner r x → 0 < r → Beyond r k → Beyond x k
+beyond_before x r k (inl e) p b = inl e
+beyond_before x r k (inr s) p (inl e) = absurd (omega arith)
+beyond_before x r k (inr s) p (inr l) = inr (omega (arith, s.1))
+
+least_this : (o : Option ℕ) (r : ℕ) → AtLeast (Some (min r (unwrap_or o r))) r
+least_this None r = omega arith
+least_this (Some l) r = omega arith
+
+least_that : (o : Option ℕ) (r x : ℕ) → AtLeast o x → AtLeast (Some (min r (unwrap_or o r))) x
+least_that None r x h = absurd h
+least_that (Some l) r x h = omega (arith, h)
+
+some_none : {x : ℕ} → Some x ≡ None → ⊥
+some_none e = subst (λ (o : Option ℕ). MatchOption o ⊥ (λ _. ◌≡◌ {A = ℕ} 0 0)) e refl
+
 pub beyond_else : (x k : ℕ) → ((0 < x) × (k < x)) ⊎ (x ≤ 0) → Beyond x k
 beyond_else x k (inl h) = inr h.1
 beyond_else x k (inr z) = inl (omega arith)
@@ -210,35 +227,37 @@ module _ (new old : Module) (pairs : List Pair) (n : ℕ) where
   from_here P i l f p j a b = elim (cases_eq j (i - 1)) [ inl e ↦ subst P (sym e) p | inr ne ↦ f j (omega arith) b ]
 
   -- a row that has its rank for good is passed over
-  pub swept_over : (t₀ t : List PairRow) (done i : ℕ) (fell : Bool) → 0 < i → 0 < (row t (i - 1)).rank → (row t (i - 1)).rank ≤ done
-      → Swept new old pairs t₀ t n done i fell → Swept new old pairs t₀ t n done (i - 1) fell
-  swept_over t₀ t done i fell l a b s =
+  pub swept_over : (t₀ t : List PairRow) (done i : ℕ) (least : Option ℕ) → 0 < i → 0 < (row t (i - 1)).rank → (row t (i - 1)).rank ≤ done
+      → Swept new old pairs t₀ t n done i least → Swept new old pairs t₀ t n done (i - 1) least
+  swept_over t₀ t done i least l a b s =
       record {
         fair = s.fair;
         alike = s.alike;
         lower = s.lower;
         falls = s.falls;
+        given = s.given;
         kept = s.kept;
-        next = from_here (λ j. Beyond (row t j).rank (suc done) → pair_of (row t j) ∈ round new old pairs (suc done)) i l s.next
-            (λ z. absurd (none_beyond (row t (i - 1)).rank (suc done) a (omega (arith, b)) z));
+        next = λ k m d. from_here (λ j. Beyond (row t j).rank (suc k) → pair_of (row t j) ∈ round new old pairs (suc k)) i l (s.next k m d)
+            (λ z. absurd (none_beyond (row t (i - 1)).rank (suc k) a (omega (arith, b, m)) z));
         same = λ f. from_here (λ j. Beyond (row t j).rank done → Steady new old t n (row t j).new (row t j).old (row t j).rank) i l (s.same f)
             (λ z. absurd (none_beyond (row t (i - 1)).rank done a b z));
       }
 
-  pub swept_pass : (t₀ t : List PairRow) (done i r : ℕ) (fell : Bool) → 0 < i → i ≤ n → r ≡ (row t (i - 1)).rank
+  pub swept_pass : (t₀ t : List PairRow) (done i r : ℕ) (least : Option ℕ) → 0 < i → i ≤ n → r ≡ (row t (i - 1)).rank
       → JudgedRow new old t n (row t (i - 1)).new (row t (i - 1)).old (row t (i - 1)).rank r
-      → Swept new old pairs t₀ t n done i fell → Swept new old pairs t₀ t n done (i - 1) fell
-  swept_pass t₀ t done i r fell l le e j s =
+      → Swept new old pairs t₀ t n done i least → Swept new old pairs t₀ t n done (i - 1) least
+  swept_pass t₀ t done i r least l le e j s =
       let here : Steady new old t n (row t (i - 1)).new (row t (i - 1)).old (row t (i - 1)).rank = subst (λ (x : ℕ). Steady new old t n (row t (i - 1)).new (row t (i - 1)).old x) e j.steady in
       record {
         fair = s.fair;
         alike = s.alike;
         lower = s.lower;
         falls = s.falls;
+        given = s.given;
         kept = s.kept;
-        next = from_here (λ j. Beyond (row t j).rank (suc done) → pair_of (row t j) ∈ round new old pairs (suc done)) i l s.next
-            (λ z. steady_next new old pairs t n s.fair done (row t (i - 1)).new (row t (i - 1)).old (row t (i - 1)).rank (s.kept done (omega arith)) z
-            (s.kept done (omega arith) (i - 1) (omega arith) (beyond_down (row t (i - 1)).rank done (suc done) (omega arith) z)) here);
+        next = λ k m d. from_here (λ j. Beyond (row t j).rank (suc k) → pair_of (row t j) ∈ round new old pairs (suc k)) i l (s.next k m d)
+            (λ z. steady_next new old pairs t n s.fair k (row t (i - 1)).new (row t (i - 1)).old (row t (i - 1)).rank (s.kept k m d k (omega arith)) z
+            (s.kept k m d k (omega arith) (i - 1) (omega arith) (beyond_down (row t (i - 1)).rank k (suc k) (omega arith) z)) here);
         same = λ f. from_here (λ j. Beyond (row t j).rank done → Steady new old t n (row t j).new (row t j).old (row t j).rank) i l (s.same f) (λ _. here);
       }
 
@@ -246,44 +265,91 @@ module _ (new old : Module) (pairs : List Pair) (n : ℕ) where
   carried : (t : List PairRow) (i r k j : ℕ) → i < n → pair_of (row t j) ∈ round new old pairs k → pair_of (row (with t i r) j) ∈ round new old pairs k
   carried t i r k j l h = subst (λ (x : Pair). x ∈ round new old pairs k) (sym (pair_alike t (with t i r) n j (alike_write t n i r l))) h
 
-  kept_write : (t : List PairRow) (done i r : ℕ) → i < n → Beyond (row t i).rank done → DoneTo new old pairs t n done → DoneTo new old pairs (with t i r) n done
-  kept_write t done i r l v k m lm j lj z = elim (cases_eq j i) [
-    | inl e ↦ carried t i r m j l (subst (λ (x : ℕ). pair_of (row t x) ∈ round new old pairs m) (sym e) (falls_to new old pairs m done (pair_of (row t i)) lm (k done (omega arith) i l v)))
-    | inr ne ↦ carried t i r m j l (k m lm j lj (subst (λ (x : ℕ). Beyond x m) (rank_that t i r j ne) z))
+  kept_write : (t : List PairRow) (k i r : ℕ) → i < n → n ≤ length t → 0 < r → Sooner r (row t i).rank → DoneTo new old pairs t n k → DoneTo new old pairs (with t i r) n k
+  kept_write t k i r l w p o d m lm j lj z = elim (cases_eq j i) [
+    | inl e ↦ (let z' : Beyond r m = subst (λ (x : ℕ). Beyond x m) (ap (λ (x : ℕ). (row (with t i r) x).rank) e ∙ rank_this t i r (omega arith)) z in
+        carried t i r m j l (subst (λ (x : ℕ). pair_of (row t x) ∈ round new old pairs m) (sym e) (d m lm i l (beyond_before (row t i).rank r m o p z'))))
+    | inr ne ↦ carried t i r m j l (d m lm j lj (subst (λ (x : ℕ). Beyond x m) (rank_that t i r j ne) z))
   ]
 
-  pub swept_write : (t₀ t : List PairRow) (done i r : ℕ) (fell : Bool) → 0 < i → i ≤ n → (r ≡ (row t (i - 1)).rank → ⊥) → r < 2 ^ 32
-      → Beyond (row t (i - 1)).rank done
+  given_write : (t₀ t : List PairRow) (i r : ℕ) (least : Option ℕ) → i < n → n ≤ length t
+      → ((j : ℕ) → j < n → ((row t j).rank ≡ (row t₀ j).rank) ⊎ AtLeast least (row t j).rank)
+      → (j : ℕ) → j < n → ((row (with t i r) j).rank ≡ (row t₀ j).rank) ⊎ AtLeast (Some (min r (unwrap_or least r))) (row (with t i r) j).rank
+  given_write t₀ t i r least l w g j lj = elim (cases_eq j i) [
+    | inl e ↦ (let er : (row (with t i r) j).rank ≡ r = ap (λ (x : ℕ). (row (with t i r) x).rank) e ∙ rank_this t i r (omega arith) in
+        inr (subst (λ (x : ℕ). AtLeast (Some (min r (unwrap_or least r))) x) (sym er) (least_this least r)))
+    | inr ne ↦ (let er : (row (with t i r) j).rank ≡ (row t j).rank = rank_that t i r j ne in elim (g j lj) [
+      | inl h ↦ inl (er ∙ h)
+      | inr h ↦ inr (subst (λ (x : ℕ). AtLeast (Some (min r (unwrap_or least r))) x) (sym er) (least_that least r (row t j).rank h))
+    ])
+  ]
+
+  pub swept_write : (t₀ t : List PairRow) (done i r : ℕ) (least : Option ℕ) → 0 < i → i ≤ n → (r ≡ (row t (i - 1)).rank → ⊥) → r < 2 ^ 32
       → JudgedRow new old t n (row t (i - 1)).new (row t (i - 1)).old (row t (i - 1)).rank r
-      → Swept new old pairs t₀ t n done i fell
-      → Swept new old pairs t₀ (set t (i - 1) (record { new = (row t (i - 1)).new; old = (row t (i - 1)).old; rank = r })) n done (i - 1) true
-  swept_write t₀ t done i r fell l le ne lr v j s =
+      → Swept new old pairs t₀ t n done i least
+      → Swept new old pairs t₀ (set t (i - 1) (record { new = (row t (i - 1)).new; old = (row t (i - 1)).old; rank = r })) n done (i - 1) (Some (min r (unwrap_or least r)))
+  swept_write t₀ t done i r least l le ne lr j s =
       let w = fair_write t (i - 1) r (omega arith) (λ e. ne (sym e)) lr j s.fair in
+      let p : 0 < r = (falls_by (row t (i - 1)).rank r j.sooner ne lr).0 in
       record {
         fair = w.0;
         alike = alike_on t₀ t _ n s.alike (alike_write t n (i - 1) r (omega arith));
         lower = omega (arith, w.1, s.lower);
-        falls = λ _. omega (arith, w.1, s.lower);
-        kept = kept_write t done (i - 1) r (omega arith) v s.kept;
-        next = from_here (λ j. Beyond (row (with t (i - 1) r) j).rank (suc done) → pair_of (row (with t (i - 1) r) j) ∈ round new old pairs (suc done)) i l
-            (λ j a b z. carried t (i - 1) r (suc done) j (omega arith) (s.next j a b (subst (λ (x : ℕ). Beyond x (suc done)) (rank_that t (i - 1) r j (λ x. omega arith)) z)))
-            (λ z. carried t (i - 1) r (suc done) (i - 1) (omega arith) (steady_next new old pairs t n s.fair done (row t (i - 1)).new (row t (i - 1)).old r (s.kept done (omega arith))
-            (subst (λ (x : ℕ). Beyond x (suc done)) (rank_this t (i - 1) r (omega (arith, s.fair.within))) z) (s.kept done (omega arith) (i - 1) (omega arith) v) j.steady));
-        same = λ e. absurd (let z : ◌≡◌ {A = ℕ} 0 1 = cc in omega arith);
+        falls = λ _ _. omega (arith, w.1, s.lower);
+        given = given_write t₀ t (i - 1) r least (omega arith) s.fair.within s.given;
+        kept = λ k m d. kept_write t k (i - 1) r (omega arith) s.fair.within p j.sooner (s.kept k m d);
+        next = λ k m d. from_here (λ j. Beyond (row (with t (i - 1) r) j).rank (suc k) → pair_of (row (with t (i - 1) r) j) ∈ round new old pairs (suc k)) i l
+            (λ j a b z. carried t (i - 1) r (suc k) j (omega arith) (s.next k m d j a b (subst (λ (x : ℕ). Beyond x (suc k)) (rank_that t (i - 1) r j (λ x. omega arith)) z)))
+            (λ z. let z' : Beyond r (suc k) = subst (λ (x : ℕ). Beyond x (suc k)) (rank_this t (i - 1) r (omega (arith, s.fair.within))) z in
+            carried t (i - 1) r (suc k) (i - 1) (omega arith) (steady_next new old pairs t n s.fair k (row t (i - 1)).new (row t (i - 1)).old r (s.kept k m d k (omega arith)) z'
+            (s.kept k m d k (omega arith) (i - 1) (omega arith) (beyond_before (row t (i - 1)).rank r k j.sooner p (beyond_down r k (suc k) (omega arith) z'))) j.steady));
+        same = λ e. absurd (some_none e);
       }
 
-  -- a sweep is done with one round more
-  pub swept_more : (t₀ t : List PairRow) (done k : ℕ) (fell : Bool) → k ≤ done + 1 → Swept new old pairs t₀ t n done 0 fell → DoneTo new old pairs t n k
-  swept_more t₀ t done k fell l s m lm j lj z = elim (cases_lt done m) [
-    | inl a ↦ (let e : m ≡ suc done = omega arith in
-        subst (λ (x : ℕ). pair_of (row t j) ∈ round new old pairs x) (sym e) (s.next j (omega arith) lj (subst (λ (x : ℕ). Beyond (row t j).rank x) e z)))
-    | inr a ↦ s.kept m a j lj z
+  -- Where a sweep gave no rank up to k + 1, the rounds up to k + 1 were done with before it.
+  before_more : (t₀ t : List PairRow) (done k l : ℕ) → done ≤ k → suc k < l → Swept new old pairs t₀ t n done 0 (Some l) → DoneTo new old pairs t₀ n k → DoneTo new old pairs t₀ n (suc k)
+  before_more t₀ t done k l m b s d x lx j lj z = elim (cases_lt k x) [
+    | inl a ↦ (let e : x ≡ suc k = omega arith in
+        let z' : Beyond (row t₀ j).rank (suc k) = subst (λ (y : ℕ). Beyond (row t₀ j).rank y) e z in
+        let after : Beyond (row t j).rank (suc k) = (elim (s.given j lj) [ inl h ↦ subst (λ (y : ℕ). Beyond y (suc k)) (sym h) z' | inr h ↦ (let low : l ≤ (row t j).rank = h in inr (omega arith)) ]) in
+        subst (λ (y : ℕ). pair_of (row t₀ j) ∈ round new old pairs y) (sym e) (subst (λ (y : Pair). y ∈ round new old pairs (suc k)) (pair_alike t₀ t n j s.alike) (s.next k m d j (omega arith) lj after)))
+    | inr a ↦ d x a j lj z
   ]
 
-  pub settled : (all : List Pair) (t₀ t : List PairRow) (done : ℕ) (fell : Bool) → pairs ≡ all → fell ≡ false → Swept new old pairs t₀ t n done 0 fell
+  before_to : (t₀ t : List PairRow) (done l : ℕ) → Swept new old pairs t₀ t n done 0 (Some l) → DoneTo new old pairs t₀ n done → (k : ℕ) → done + k < l → DoneTo new old pairs t₀ n (done + k)
+  before_to t₀ t done l s d zero b = subst (λ (x : ℕ). DoneTo new old pairs t₀ n x) (let e : done ≡ done + zero = omega arith in e) d
+  before_to t₀ t done l s d (suc k) b =
+      subst (λ (x : ℕ). DoneTo new old pairs t₀ n x) (let e : suc (done + k) ≡ done + suc k = omega arith in e)
+      (before_more t₀ t done (done + k) l (omega arith) (omega arith) s (before_to t₀ t done l s d k (omega arith)))
+
+  -- after it the rounds up to the least rank that it gave are done with
+  pub swept_done : (t₀ t : List PairRow) (done l : ℕ) → Swept new old pairs t₀ t n done 0 (Some l) → DoneTo new old pairs t₀ n done → DoneTo new old pairs t n l
+  swept_done t₀ t done l s d m lm j lj z = elim (cases_lt done m) [
+    | inl a ↦ (let k : ℕ = m - 1 in
+        let e : m ≡ suc k = omega arith in
+        let there : DoneTo new old pairs t₀ n k = subst (λ (x : ℕ). DoneTo new old pairs t₀ n x) (let f : done + (k - done) ≡ k = omega arith in f) (before_to t₀ t done l s d (k - done) (omega arith)) in
+        subst (λ (x : ℕ). pair_of (row t j) ∈ round new old pairs x) (sym e) (s.next k (omega arith) there j (omega arith) lj (subst (λ (x : ℕ). Beyond (row t j).rank x) e z)))
+    | inr a ↦ s.kept done (omega arith) d m a j lj z
+  ]
+
+  -- before the first row
+  pub swept_start : (t : List PairRow) (done : ℕ) → Fair new old pairs t n → Swept new old pairs t t n done n None
+  swept_start t done f = record {
+    fair = f;
+    alike = record { pairs = refl; rest = refl };
+    lower = omega arith;
+    falls = λ l e. absurd (some_none (sym e));
+    given = λ j l. inl refl;
+    kept = λ k m d. d;
+    next = λ k m d j a b. absurd (omega arith);
+    same = λ _ j a b. absurd (omega arith);
+  }
+
+  pub settled : (all : List Pair) (t₀ t : List PairRow) (done : ℕ) (least : Option ℕ) → pairs ≡ all → least ≡ None → DoneTo new old all t₀ n done → Swept new old pairs t₀ t n done 0 least
       → (i : ℕ) → i < n → (row t i).rank ≡ rank new old all (pair_of (row t i))
-  settled all t₀ t done fell h e s i l =
-      steady_ranked new old pairs t n s.fair done s.kept (s.same e) i l ∙ ap (λ (ps : List Pair). rank new old ps (pair_of (row t i))) h
+  settled all t₀ t done least h e d s i l =
+      steady_ranked new old pairs t n s.fair done (s.kept done (omega arith) (subst (λ (ps : List Pair). DoneTo new old ps t₀ n done) (sym h) d)) (s.same e) i l
+      ∙ ap (λ (ps : List Pair). rank new old ps (pair_of (row t i))) h
 
   -- round 0 is done with before the first sweep
   pub done_start : (t : List PairRow) → n ≤ length t → pairs_of n t ≡ pairs → DoneTo new old pairs t n 0
@@ -292,14 +358,21 @@ module _ (new old : Module) (pairs : List Pair) (n : ℕ) where
       subst (λ (x : ℕ). pair_of (row t j) ∈ round new old pairs x) (sym e)
       (none_round new old pairs (pair_of (row t j)) (subst (λ (ps : List Pair). pair_of (row t j) ∈ ps) h (row_in n t j lj w)))
 
+  -- what of clause 3 no rank can alter holds of a row that a sweep has passed
+  pub hurries_on : (t₀ t : List PairRow) (done from i : ℕ) (least : Option ℕ) → DoneTo new old pairs t₀ n done → Swept new old pairs t₀ t n done from least → i < n → Beyond (row t i).rank done
+      → 0 < done → Hurries new old (row t i).new (row t i).old
+  hurries_on t₀ t done from i least d s l v p =
+      kept_hurries new old pairs t n s.fair (row t i).new (row t i).old (s.kept done (omega arith) d 1 (omega arith) i l (beyond_down (row t i).rank 1 done (omega arith) v))
+
 -- what the loop over the sweeps keeps
-pub settle_step : (new old : Module) (pairs all : List Pair) (t₀ t u : List PairRow) (n m k done next : ℕ) (fell : Bool) → pairs ≡ all → m ≡ n → k ≡ m → next ≤ done + 1
-    → Alike t₀ t n → Swept new old pairs t u m done 0 fell → Fair new old all u k × DoneTo new old all u k next × Alike t₀ u n
-settle_step new old pairs all t₀ t u n m k done next fell h en ek l a s =
+pub settle_step : (new old : Module) (pairs all : List Pair) (t₀ t u : List PairRow) (n m k done l : ℕ) (least : Option ℕ) → pairs ≡ all → m ≡ n → k ≡ m → least ≡ Some l
+    → Alike t₀ t n → DoneTo new old all t m done → Swept new old pairs t u m done 0 least → Fair new old all u k × DoneTo new old all u k l × Alike t₀ u n
+settle_step new old pairs all t₀ t u n m k done l least h en ek el a d s =
     let fair : Fair new old all u m = subst (λ (ps : List Pair). Fair new old ps u m) h s.fair in
-    let more : DoneTo new old all u m next = subst (λ (ps : List Pair). DoneTo new old ps u m next) h (swept_more new old pairs m t u done next fell l s) in (
+    let swept : Swept new old pairs t u m done 0 (Some l) = subst (λ (o : Option ℕ). Swept new old pairs t u m done 0 o) el s in
+    let more : DoneTo new old all u m l = subst (λ (ps : List Pair). DoneTo new old ps u m l) h (swept_done new old pairs m t u done l swept (subst (λ (ps : List Pair). DoneTo new old ps t m done) (sym h) d)) in (
       subst (λ (x : ℕ). Fair new old all u x) (sym ek) fair,
-      subst (λ (x : ℕ). DoneTo new old all u x next) (sym ek) more,
+      subst (λ (x : ℕ). DoneTo new old all u x l) (sym ek) more,
       alike_on t₀ t u n a (subst (λ (x : ℕ). Alike t u x) en s.alike),
     )
 

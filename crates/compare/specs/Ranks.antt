@@ -1,6 +1,6 @@
 -- Ranks on the way to those of the rounds: a rank in a row says that the round of that number does not keep the row, and is
 -- lowered until each row has what the ranks of the others ask. Assumes nothing.
-use Rattle.std.specs.Prelude.{◌≡◌, ℕ, zero, suc, ◌+◌, ◌^◌, ◌<◌, ◌≤◌, Bool, true, false, cond, T, ◌⊎◌, List, length, map, drop, Some, ◌==◌}
+use Rattle.std.specs.Prelude.{◌≡◌, ℕ, zero, suc, ◌+◌, ◌^◌, ◌<◌, ◌≤◌, cond, T, ◌⊎◌, List, length, map, drop, Some, None, Option, ◌==◌}
 use Rattle.action.specs.Lists.{◌∈◌}
 use Rattle.action.specs.Sets.{within}
 use Rattle.catalogue.specs.declared.Move.{Move}
@@ -61,6 +61,10 @@ abbrev pub TickGone : Module → Module → List PairRow → ℕ → (p q r : �
 TickGone new old rows n p q r = (p' : ℕ) × (((state new p).tick ≡ Some p')
     × (T (within (state old q).urgent (state new p).urgent) → (q' : ℕ) → (state old q).tick ≡ Some q' → (j : ℕ) → j < n → Is rows j p' q'
     → (0 < (row rows j).rank) × ((row rows j).rank < r)))
+
+-- where p ticks, every urgent action of q is urgent in p: what of clause 3 no rank can alter
+abbrev pub Hurries : Module → Module → (p q : ℕ) → Type 0
+Hurries new old p q = (p' : ℕ) → (state new p).tick ≡ Some p' → T (within (state old q).urgent (state new p).urgent)
 
 -- what holds the pair p and q until round r
 pub record Steady (new old : Module) (rows : List PairRow) (n p q r : ℕ) : Type 0 where
@@ -138,7 +142,7 @@ Beyond x k = (x ≡ 0) ⊎ (k < x)
 abbrev pub KeptTo : Module → Module → List Pair → List PairRow → (n k : ℕ) → Type 0
 KeptTo new old pairs rows n k = (j : ℕ) → j < n → Beyond (row rows j).rank k → pair_of (row rows j) ∈ round new old pairs k
 
--- each row that a round up to k drops has the number of that round as its rank
+-- the rounds up to k have given their ranks: each row that such a round drops has one that is no later
 abbrev pub DoneTo : Module → Module → List Pair → List PairRow → (n k : ℕ) → Type 0
 DoneTo new old pairs rows n k = (m : ℕ) → m ≤ k → KeptTo new old pairs rows n m
 
@@ -147,13 +151,19 @@ abbrev pub SteadyFrom : Module → Module → List PairRow → (n done i : ℕ) 
 SteadyFrom new old rows n done i =
     (j : ℕ) → i ≤ j → j < n → Beyond (row rows j).rank done → Steady new old rows n (row rows j).new (row rows j).old (row rows j).rank
 
--- A sweep from the last row down to row i, after `done` sweeps, each of which was done with one round more; `fell` says that
--- some rank fell.
-pub record Swept (new old : Module) (pairs : List Pair) (before after : List PairRow) (n done i : ℕ) (fell : Bool) : Type 0 where
+-- no less than the least of the ranks that were given
+abbrev pub AtLeast : Option ℕ → ℕ → Type 0
+AtLeast None x = ⊥
+AtLeast (Some l) x = l ≤ x
+
+-- A sweep from the last row down to row i, which passes over the rows whose rank is given and at most `done`; `least` is the least
+-- rank that it gave. Where it began with the rounds up to k, it is done with round k + 1 in the rows that it came to.
+pub record Swept (new old : Module) (pairs : List Pair) (before after : List PairRow) (n done i : ℕ) (least : Option ℕ) : Type 0 where
   pub fair : Fair new old pairs after n
   pub alike : Alike before after n
   pub lower : weight after n ≤ weight before n
-  pub falls : fell ≡ true → weight after n < weight before n
-  pub kept : DoneTo new old pairs after n done
-  pub next : (j : ℕ) → i ≤ j → j < n → Beyond (row after j).rank (suc done) → pair_of (row after j) ∈ round new old pairs (suc done)
-  pub same : fell ≡ false → SteadyFrom new old after n done i
+  pub falls : (l : ℕ) → least ≡ Some l → weight after n < weight before n
+  pub given : (j : ℕ) → j < n → ((row after j).rank ≡ (row before j).rank) ⊎ AtLeast least (row after j).rank
+  pub kept : (k : ℕ) → done ≤ k → DoneTo new old pairs before n k → DoneTo new old pairs after n k
+  pub next : (k : ℕ) → done ≤ k → DoneTo new old pairs before n k → (j : ℕ) → i ≤ j → j < n → Beyond (row after j).rank (suc k) → pair_of (row after j) ∈ round new old pairs (suc k)
+  pub same : least ≡ None → SteadyFrom new old after n done i

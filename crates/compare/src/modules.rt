@@ -1,5 +1,6 @@
 // The two modules that are compared.
 ghost use Rattle.std.specs.Prelude.{◌≡◌};
+ghost use Rattle.action.specs.Sets.{within};
 ghost use Rattle.catalogue.specs.Catalogue.{module_in, state};
 
 use crate::moves::PairMoves;
@@ -29,6 +30,14 @@ impl<'a, C: Catalogue> Modules<'a, C> {
                 number: old,
             },
         }
+    }
+
+    // Whether every urgent action of the old state of a pair is urgent in the new one.
+    pub(crate) fn hurries(&self, held: PairRow) -> bool
+        ensures { result ≡ within (state self.now.old held.old).urgent (state self.now.new held.new).urgent }
+    {
+        let asked = self.old.urgent(held.old);
+        asked.is_subset(self.new.urgent(held.new))
     }
 
     // Reads the moves of the two states of a pair. With the two lists as a result, the comparison of modules with one move a

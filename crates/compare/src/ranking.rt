@@ -3,7 +3,7 @@ ghost use Rattle.std.specs.Prelude.{◌≡◌, ℕ, ◌<◌, MatchBool, MatchOpt
 ghost use Rattle.pair_table.specs.Laws.{row};
 ghost use Rattle.compare.specs.declared.ranking.Side.{Side};
 ghost use Rattle.compare.specs.Rows.{Is, Absent};
-ghost use Rattle.compare.specs.Ranks.{Judged, JudgedAll, JudgedRow, JudgedTick, Lasts, Leaves, PartnerBy};
+ghost use Rattle.compare.specs.Ranks.{Hurries, Judged, JudgedAll, JudgedRow, JudgedTick, Lasts, Leaves, PartnerBy};
 
 use crate::filled::Filled;
 use crate::modules::Modules;
@@ -76,25 +76,31 @@ impl<'a> Filled<'a> {
         first
     }
 
-    // The round at which the tick clause fails, if it comes before `limit`; else `limit`.
-    fn tick_unmatched<C: Catalogue>(&self, modules: &Modules<C>, held: PairRow, limit: u32) -> u32
-        ensures { JudgedTick modules.now.new modules.now.old self.now.rows.now self.now.count held.new held.old limit result }
+    // The round at which the tick clause fails, if it comes before the row's own rank; else that rank. `done` says how many rounds
+    // were done with before the sweep: where there were some, what of the clause no rank can alter was tried by an earlier sweep.
+    fn tick_unmatched<C: Catalogue>(&self, modules: &Modules<C>, held: PairRow, done: u32) -> u32
+        requires own { (i : ℕ) × ((i < self.now.count) × (row self.now.rows.now i ≡ held)) }
+        requires hurries { 0 < done → Hurries modules.now.new modules.now.old held.new held.old }
+        ensures { JudgedTick modules.now.new modules.now.old self.now.rows.now self.now.count held.new held.old held.rank result }
     {
         let Some(p) = modules.new.tick(held.new) else {
-            return limit;
+            return held.rank;
         };
         let Some(q) = modules.old.tick(held.old) else {
             return 1;
         };
-        let asked = modules.old.urgent(held.old);
-        if !asked.is_subset(modules.new.urgent(held.new)) {
+        if done == 0 && !modules.hurries(held) {
             return 1;
+        }
+        // Most ticks lead back to the pair itself.
+        if p == held.new && q == held.old {
+            return held.rank;
         }
         let Some(rank) = self.rank_of(p, q) else {
             return 1;
         };
-        if outlasts(rank, limit) {
-            limit
+        if outlasts(rank, held.rank) {
+            held.rank
         } else {
             rank + 1
         }
@@ -106,10 +112,13 @@ impl<'a> Filled<'a> {
         modules: &Modules<C>,
         moves: &mut PairMoves,
         held: PairRow,
+        done: u32,
     ) -> u32
+        requires own { (i : ℕ) × ((i < self.now.count) × (row self.now.rows.now i ≡ held)) }
+        requires hurries { 0 < done → Hurries modules.now.new modules.now.old held.new held.old }
         ensures { JudgedRow modules.now.new modules.now.old self.now.rows.now self.now.count held.new held.old held.rank result }
     {
-        let tick = self.tick_unmatched(modules, held, held.rank);
+        let tick = self.tick_unmatched(modules, held, done);
         modules.moves(held, moves);
         let news = moves.news.as_slice();
         let olds = moves.olds.as_slice();

@@ -13,38 +13,38 @@ use catalogue::Catalogue;
 use pair_table::PairRow;
 
 impl<'a> Filled<'a> {
-    // Lowers the rank of each row to what the ranks of the others ask, from the last row to the first; whether one fell.
-    // A row's successors mostly stand behind it, so one sweep settles a whole chain. `done` sweeps came before: a rank that is no
-    // greater is final, and its row is passed over.
+    // Lowers the rank of each row to what the ranks of the others ask, from the last row to the first; the least rank that was
+    // given. A row's successors mostly stand behind it, so one sweep settles a whole chain. The rounds up to `done` are done with:
+    // a rank that is no greater is final, and its row is passed over.
     fn sweep<C: Catalogue>(
         &mut self,
         modules: &Modules<C>,
         moves: &mut PairMoves,
         done: u32,
-    ) -> bool
+    ) -> Option<u32>
         requires fair { Fair modules.now.new modules.now.old (pairs_in self.old) self.old.rows.now self.old.count }
         requires done { DoneTo modules.now.new modules.now.old (pairs_in self.old) self.old.rows.now self.old.count done }
         ensures same_reference { self.new.rows.ghost_name ≡ self.old.rows.ghost_name }
         ensures same_count { self.new.count ≡ self.old.count }
         ensures swept { Swept modules.now.new modules.now.old (pairs_in self.old) self.old.rows.now self.new.rows.now self.old.count done 0 result }
     {
-        let mut fell = false;
+        let mut least: Option<u32> = None;
         // By number, since the whole table is read to find what a row's rank becomes.
         for i in (0..self.count).rev() {
             let held = self.rows[i];
             if held.rank > 0 && held.rank <= done {
                 continue;
             }
-            let rank = self.drop_round(modules, moves, held);
+            let rank = self.drop_round(modules, moves, held, done);
             if rank != held.rank {
                 self.rows[i] = PairRow { rank, ..held };
-                fell = true;
+                least = Some(rank.min(least.unwrap_or(rank)));
             }
         }
-        fell
+        least
     }
 
-    // Sweeps until no rank falls. Part of `compare`, so that the fields of the rows stay in registers.
+    // Sweeps until no rank is given: a sweep is done with the rounds up to the least rank that it gave. Part of `compare`, so that the fields of the rows stay in registers.
     #[inline]
     pub(crate) fn settle<C: Catalogue>(&mut self, modules: &Modules<C>, moves: &mut PairMoves)
         requires { Fair modules.now.new modules.now.old (pairs_in self.old) self.old.rows.now self.old.count }
@@ -54,8 +54,8 @@ impl<'a> Filled<'a> {
         ensures ranked { (i : ℕ) → i < self.old.count → (row self.new.rows.now i).rank ≡ rank_in modules.now.new modules.now.old (pairs_in self.old) (pair_of (row self.new.rows.now i)) }
     {
         let mut done: u32 = 0;
-        while self.sweep(modules, moves, done) {
-            done = done.saturating_add(1);
+        while let Some(least) = self.sweep(modules, moves, done) {
+            done = least;
         }
     }
 }
