@@ -258,6 +258,30 @@ module _ (rows : List PairRow) (n : ℕ) (side : Side) (mine others : List Move)
         sooner = sooner_on r first limit j.sooner s.sooner;
       }
 
+-- Of two lone moves the one has a partner where the other has.
+lone : (mine : List Move) → length mine ≡ 1 → (a b : Move) → a ∈ mine → b ∈ mine → a ≡ b
+lone [] l a b i j = absurd i
+lone (x ∷ []) l a b (inl e) (inl f) = e ∙ sym f
+lone (x ∷ []) l a b (inl e) (inr j) = absurd j
+lone (x ∷ []) l a b (inr i) j = absurd i
+lone (x ∷ y ∷ zs) l a b i j = absurd (omega arith)
+
+pub judged_lone : (rows : List PairRow) (n : ℕ) (news olds : List Move) (limit r : ℕ) → length news ≡ 1 → length olds ≡ 1
+    → JudgedAll rows n New news news olds limit r → JudgedAll rows n Old olds olds news r r
+judged_lone rows n (a ∷ []) olds limit r ln lo s =
+    record {
+      holds = λ b i. elim (s.holds a (inl refl)) [
+        | inl e ↦ inl e
+        | inr h ↦ (let w = h.1.0 in
+            let e : w.0 ≡ b = lone olds lo w.0 b w.1.0 i in
+            inr (h.0, ((a, (inl refl, subst (λ (x : Move). PartnerBy rows n Old x a h.0) e (w.1.1.0, (sym w.1.1.1.0, w.1.1.1.1)))), h.1.1)))
+      ];
+      why = inl refl;
+      sooner = sooner_same r;
+    }
+judged_lone rows n [] olds limit r ln lo s = absurd (omega arith)
+judged_lone rows n (a ∷ b ∷ cs) olds limit r ln lo s = absurd (omega arith)
+
 -- ── a row ──
 
 module _ (new old : Module) (rows : List PairRow) (n p q : ℕ) where

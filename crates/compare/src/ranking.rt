@@ -123,6 +123,10 @@ impl<'a> Filled<'a> {
         let news = moves.news.as_slice();
         let olds = moves.olds.as_slice();
         let forth = self.unmatched_any(Side::New, news, olds, tick);
+        // Two lone moves ask for the same pair, whichever side asks.
+        if news.len() == 1 && olds.len() == 1 {
+            return forth;
+        }
         self.unmatched_any(Side::Old, olds, news, forth)
     }
 }
