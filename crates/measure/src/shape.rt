@@ -11,7 +11,7 @@ pub enum Shape {
     Dense,
     // the same, with one move that has no partner
     DenseOdd,
-    // many moves by one action between states in a row: some hundred rounds, each with many pairs
+    // many moves by one action between states in a row: many rounds, each with many pairs
     Ladder,
     // two rings of lengths without a common divisor: all pairs, and as many rounds
     Cycles,
@@ -143,24 +143,15 @@ fn ladder(heap: Global, odd: bool) -> Result<Module, AllocError> {
 // States in a ring. Going on is urgent in the last one alone, or in all the others.
 fn cycle(heap: Global, length: u16, last_urgent: bool) -> Result<Module, AllocError> {
     let mut module = Module::new(heap);
-    for next in 1..length {
-        module.push(
-            heap,
-            &[Step {
-                action: 1,
-                urgent: !last_urgent,
-                target: next,
-            }],
-        )?;
-    }
-    module.push(
-        heap,
-        &[Step {
+    for state in 0..length {
+        let is_last = state + 1 == length;
+        let step = Step {
             action: 1,
-            urgent: last_urgent,
-            target: 0,
-        }],
-    )?;
+            urgent: is_last == last_urgent,
+            target: if is_last { 0 } else { state + 1 },
+        };
+        module.push(heap, &[step])?;
+    }
     Ok(module)
 }
 
