@@ -49,12 +49,12 @@ fn compared<C: Catalogue>(
     Ok((answer, table))
 }
 
-// Asserts that the first rows are these, and that all behind them are as they were.
-fn assert_rows(rt: &impl Abort, table: &[PairRow], rows: &[Row]) {
+// Asserts that the first rows of a comparison are these, and that all behind them are as they were.
+fn assert_rows(rt: &impl Abort, new: usize, old: usize, table: &[PairRow], rows: &[Row]) {
     assert!(rt; rows.len() <= table.len());
     for (i, found) in table.iter().enumerate() {
         let row = rows.get(i).copied().unwrap_or(MARK);
-        assert_eq!(rt; *found, pair_row(row), "row {}", i);
+        assert_eq!(rt; *found, pair_row(row), "{} for {}: row {}", new, old, i);
     }
 }
 
@@ -74,7 +74,7 @@ fn assert_cases<C: Catalogue>(
         let old = first.saturating_add(*old);
         let (answer, table) = compared(heap, catalogue, new, old, pairs.saturating_add(2))?;
         assert_eq!(rt; answer, Ok((pairs, rank)), "{} for {}", new, old);
-        assert_rows(rt, &table, rows);
+        assert_rows(rt, new, old, &table, rows);
     }
     Ok(())
 }

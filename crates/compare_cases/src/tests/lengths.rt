@@ -51,7 +51,7 @@ fn lengths(rt: HostRuntime) -> Result<(), Fail> {
     for (length, wanted, filled) in LENGTHS {
         let (answer, table) = compared(rt.alloc(), &rows.book(), LATE, PROMPT, length)?;
         assert_eq!(rt; answer, wanted, "{} rows", length);
-        assert_rows(&rt, &table, filled);
+        assert_rows(&rt, LATE, PROMPT, &table, filled);
     }
     Ok(())
 }

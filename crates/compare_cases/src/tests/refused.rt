@@ -33,7 +33,7 @@ fn assert_refused<C: Catalogue>(
         for length in [0, 1, 5] {
             let (answer, rows) = compared(heap, catalogue, new, old, length)?;
             assert_eq!(rt; answer, Err(number), "{} for {}", new, old);
-            assert_rows(rt, &rows, &[]);
+            assert_rows(rt, new, old, &rows, &[]);
         }
     }
     Ok(())
@@ -61,7 +61,7 @@ fn empty(rt: HostRuntime) -> Result<(), Fail> {
     for (new, old) in [(0, 0), (1, 0), (0, 255), (usize::MAX, usize::MAX)] {
         let (answer, table) = compared(heap, &none, new, old, 3)?;
         assert_eq!(rt; answer, Err(22), "{} for {}", new, old);
-        assert_rows(&rt, &table, &[]);
+        assert_rows(&rt, new, old, &table, &[]);
     }
     Ok(())
 }
@@ -95,7 +95,7 @@ fn cut(rt: HostRuntime) -> Result<(), Fail> {
     for (new, old, wanted, rows) in CUT {
         let (answer, table) = compared(heap, &five, new, old, 2)?;
         assert_eq!(rt; answer, wanted, "{} for {}", new, old);
-        assert_rows(&rt, &table, rows);
+        assert_rows(&rt, new, old, &table, rows);
     }
     Ok(())
 }
