@@ -26,7 +26,7 @@ fn request(rt: &HostRuntime) -> anyhow::Result<Request> {
     Ok(Request::Comparison(new.parse::<usize>()?, old.parse::<usize>()?))
 }
 
-// `bench` and `swaps` read and print alike. It stands in both, since no contract could say what files hold or what is printed.
+// The programs read and print alike. It stands in each, since no contract could say what files hold or what is printed.
 fn main(rt: HostRuntime) -> anyhow::Result<()> {
     let asked = request(&rt)?;
     let book = file_bytes(rt.alloc(), File::open(&rt, BOOK_NAME), LONGEST_FILE + 1)?;

@@ -1,14 +1,16 @@
-// Shows the maker's table in the working folder: what it means, or why it is refused.
+// Shows the modules of the book and the maker's table in the working folder: what they mean, or why a file is refused.
 #![tactic(auto)]
 
 use files::file_bytes;
-use inspection::{FILE_NAME, inspect_table};
+use output::{BOOK_NAME, Request, TABLE_NAME, output_text};
 use report::LONGEST_FILE;
 use std::fs::File;
 
+// The programs read and print alike. It stands in each, since no contract could say what files hold or what is printed.
 fn main(rt: HostRuntime) -> anyhow::Result<()> {
-    let file = file_bytes(rt.alloc(), File::open(&rt, FILE_NAME), LONGEST_FILE + 1)?;
-    let text = inspect_table(rt.alloc(), file)?;
+    let book = file_bytes(rt.alloc(), File::open(&rt, BOOK_NAME), LONGEST_FILE + 1)?;
+    let table = file_bytes(rt.alloc(), File::open(&rt, TABLE_NAME), LONGEST_FILE + 1)?;
+    let text = output_text(rt.alloc(), Request::Modules, book, table)?;
     print!(rt; "{text}")?;
     Ok(())
 }

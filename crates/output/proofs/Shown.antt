@@ -6,7 +6,6 @@ use Rattle.std.proofs.lemmas.List.{append_assoc, take-append-le, take_all}
 use Rattle.std.proofs.lemmas.Result.{IfOk-weaker}
 use Rattle.std.proofs.lemmas.Bool.{lt-ltb, le-ltb}
 use Rattle.catalogue.specs.Catalogue.{Catalogue}
-use Rattle.catalogue.specs.Layers.{joined}
 use Rattle.rows.specs.declared.row.Place.{Place}
 use Rattle.rows.specs.declared.row.ModuleRow.{ModuleRow}
 use Rattle.rows.specs.Opening.{opened}
@@ -29,7 +28,7 @@ use Rattle.output.specs.declared.FileFault.TheVariants.{BookLong, Book, TableLon
 use Rattle.output.specs.Taking.{Took}
 use Rattle.output.specs.Output.{where_text, file_fault_text, book_name, table_name, place_rows, module_rows, file_fault_line, with_table, with_book, shown}
 
-module _ (show : Catalogue → List ℕ) (book table : List ℕ) where
+module _ (show : Catalogue → Catalogue → List ℕ) (book table : List ℕ) where
   pub long_book : longest_file < length book → long_line book_name ≡ shown show book table
   unfolding shown
   long_book l = sym (ap (λ (t : Bool). elim t [ true ↦ long_line book_name | false ↦ with_book show table (outcome place_rows module_rows book) ]) (lt-ltb longest_file (length book) l))
@@ -52,12 +51,12 @@ module _ (show : Catalogue → List ℕ) (book table : List ℕ) where
       ∙ by_book (accepted ps ms) p m l ep em e
 
 module _ (book table : List ℕ) (ps : List Place) (ms : List ModuleRow) (p m : ℕ) (short : length book ≤ longest_file) (wide : p ≡ place_rows) (many : m ≡ module_rows) (reads : outcome p m book ≡ accepted ps ms) (brief : length table ≤ longest_file) where
-  pub table_refused : (e : TableFault) → (fault table ≡ Some e) ⊎ ((e ≡ NoMemory) × (fault table ≡ None)) → (Table e ≡ Table NoMemory) ⊎ ((show : Catalogue → List ℕ) → file_fault_line (Table e) ≡ shown show book table)
+  pub table_refused : (e : TableFault) → (fault table ≡ Some e) ⊎ ((e ≡ NoMemory) × (fault table ≡ None)) → (Table e ≡ Table NoMemory) ⊎ ((show : Catalogue → Catalogue → List ℕ) → file_fault_line (Table e) ≡ shown show book table)
   table_refused e (inl h) = inr (λ show. by_table show book table ps ms p m (Some e) short wide many reads brief h)
   table_refused e (inr h) = inl (ap Table h.0)
 
-  pub both_taken : (written : List ℕ) → fault table ≡ None → written ≡ table → (show : Catalogue → List ℕ) → show (joined (opened ps ms) (meaning written)) ≡ shown show book table
-  both_taken written f e show = ap (λ (b : List ℕ). show (joined (opened ps ms) (meaning b))) e ∙ by_table show book table ps ms p m None short wide many reads brief f
+  pub both_taken : (written : List ℕ) → fault table ≡ None → written ≡ table → (show : Catalogue → Catalogue → List ℕ) → show (opened ps ms) (meaning written) ≡ shown show book table
+  both_taken written f e show = ap (λ (b : List ℕ). show (opened ps ms) (meaning b)) e ∙ by_table show book table ps ms p m None short wide many reads brief f
 
 -- a fault that is not want of memory, in print, and its line
 where_told : (w : Where) → place_text w ++ ascii "\n" ≡ where_text w

@@ -14,13 +14,13 @@ use Rattle.book_text.specs.Texts.{book_fault_text}
 use Rattle.table_format.specs.Texts.{table_fault_text}
 use Rattle.table_format.specs.Reading.{meaning}
 use Rattle.table_format.specs.Taking.{fault, number, place}
-use Rattle.report.specs.Text.{longest_file, fault_line, long_line}
+use Rattle.report.specs.Text.{longest_file, catalogue_lines, fault_line, long_line}
 use Rattle.comparison_text.specs.Text.{comparisons, comparison}
 use Rattle.swaps_text.specs.Text.{swap_lines}
 use Rattle.output.specs.declared.FileFault.{FileFault}
 use Rattle.output.specs.declared.FileFault.TheVariants.{BookLong, Book, TableLong, Table}
 use Rattle.output.specs.declared.Request.{Request}
-use Rattle.output.specs.declared.Request.TheVariants.{Comparisons, Comparison, Swaps}
+use Rattle.output.specs.declared.Request.TheVariants.{Modules, Comparisons, Comparison, Swaps}
 
 abbrev pub book_name : List ℕ
 book_name = ascii "book.txt"
@@ -62,26 +62,32 @@ file_fault_line (Book e) = book_fault_line (number_of e) (where_of e)
 file_fault_line TableLong = long_line table_name
 file_fault_line (Table e) = table_fault_line e
 
--- What is shown of the two files, where `show` says what is shown of a catalogue. The book is tried first, each file's length
--- before its contents; where neither is at fault, the modules of the book stand before those of the table.
-abbrev pub with_table : (Catalogue → List ℕ) → Catalogue → List ℕ → Option TableFault → List ℕ
+-- What is shown of the two files, where `show` says what is shown of the modules of the book and of those of the table. The book is
+-- tried first, each file's length before its contents.
+abbrev pub with_table : (Catalogue → Catalogue → List ℕ) → Catalogue → List ℕ → Option TableFault → List ℕ
 with_table show front bytes (Some e) = table_fault_line e
-with_table show front bytes None = show (joined front (meaning bytes))
+with_table show front bytes None = show front (meaning bytes)
 
-abbrev pub with_book : (Catalogue → List ℕ) → List ℕ → Outcome → List ℕ
+abbrev pub with_book : (Catalogue → Catalogue → List ℕ) → List ℕ → Outcome → List ℕ
 with_book show bytes (turned_away n w) = book_fault_line n w
 with_book show bytes (accepted places modules) =
     elim (nat_lt longest_file (length bytes)) [ true ↦ long_line table_name | false ↦ with_table show (opened places modules) bytes (fault bytes) ]
 
-unfoldable pub shown : (Catalogue → List ℕ) → (book table : List ℕ) → List ℕ
+unfoldable pub shown : (Catalogue → Catalogue → List ℕ) → (book table : List ℕ) → List ℕ
 shown show book table =
     elim (nat_lt longest_file (length book)) [ true ↦ long_line book_name | false ↦ with_book show table (outcome place_rows module_rows book) ]
 
--- what is asked of a catalogue
-abbrev pub asked_of : Request → Catalogue → List ℕ
-asked_of Comparisons ms = comparisons ms
-asked_of (Comparison new old) ms = comparison ms new old
-asked_of Swaps ms = swap_lines ms
+-- The modules of the book from number 0 on, then those of the table from the number of the book's modules on: the numbers that they
+-- have where the two are joined.
+abbrev pub modules_shown : (book table : Catalogue) → List ℕ
+modules_shown book table = catalogue_lines book_name 0 book ⧺ catalogue_lines table_name (length book) table
+
+-- what is asked of the modules of the two files; where they are joined, those of the book stand before those of the table
+abbrev pub asked_of : Request → (book table : Catalogue) → List ℕ
+asked_of Modules book table = modules_shown book table
+asked_of Comparisons book table = comparisons (joined book table)
+asked_of (Comparison new old) book table = comparison (joined book table) new old
+asked_of Swaps book table = swap_lines (joined book table)
 
 -- What is printed.
 abbrev pub output : Request → (book table : List ℕ) → List ℕ

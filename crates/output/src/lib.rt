@@ -1,14 +1,14 @@
-// What the programs `bench` and `swaps` print of the two files that they read: a planner's book and a maker's table.
+// What the programs print of the two files that they read: a planner's book and a maker's table.
 #![tactic(auto)]
 
-ghost use Rattle.std.specs.Prelude.{◌≡◌, ◌≢◌, ◌≤◌, take, IfOk, Some, string_bytes, vec_len};
-ghost use Rattle.catalogue.specs.Layers.{joined};
+ghost use Rattle.std.specs.Prelude.{◌≡◌, ◌≢◌, ◌+◌, ◌≤◌, length, take, IfOk, Some, string_bytes, vec_len};
+ghost use Rattle.catalogue.specs.Catalogue.{most_modules};
 ghost use Rattle.rows.specs.Opening.{opened};
 ghost use Rattle.table_format.specs.Reading.{meaning};
 ghost use Rattle.maker_table.specs.Table.{written};
 ghost use Rattle.table_format.specs.declared.fault.TableFault.TheVariants.{NoMemory};
 ghost use Rattle.output.specs.declared.FileFault.TheVariants.{Book as BookAt, Table as TableAt};
-ghost use Rattle.output.specs.Output.{place_rows, module_rows, file_fault_text, file_fault_line, asked_of, output};
+ghost use Rattle.output.specs.Output.{place_rows, module_rows, file_fault_text, file_fault_line, modules_shown, asked_of, output};
 ghost use Rattle.output.specs.Taking.{Takes};
 
 use book::Book;
@@ -17,8 +17,8 @@ use catalogue::Catalogue;
 use comparison_text::{comparison_text, comparisons_text};
 use layers::Joined;
 use maker_table::Table;
-use report::LONGEST_FILE;
 pub use report::{BOOK_NAME, TABLE_NAME};
+use report::{LONGEST_FILE, catalogue_text};
 use rows::{MOST_MODULES, ModuleRow, Place};
 use std::alloc::{AllocError, Global};
 use std::error::Error;
@@ -79,6 +79,8 @@ impl Error for FileFault {}
 // What is asked of the modules of the two files.
 #[derive(Clone, Copy, Debug, PartialEq, Eq)]
 pub enum Request {
+    // what each module means
+    Modules,
     // every module compared with every other
     Comparisons,
     // a new module compared with an old one, with the rows of their pairs
@@ -146,23 +148,25 @@ fn refused_text(heap: Global, why: FileFault) -> Result<String, AllocError>
     format!(in heap; "{why}\n")
 }
 
-// What is asked of a catalogue. A request is what the arguments say, and no closure could stand for it, since what it asks is
-// generic in the catalogue.
-fn answer_text<C: Catalogue>(
+// What the modules of the book mean, then what those of the table do: each file's under its name, with the numbers that they have
+// where the two are joined.
+fn modules_text<A: Catalogue + Drop, B: Catalogue + Drop>(
     heap: Global,
-    catalogue: &C,
-    request: Request,
+    book: A,
+    table: B,
 ) -> Result<String, AllocError>
-    ensures { IfOk result (λ s. string_bytes s ≡ asked_of request (C.Catalogue.meaning catalogue.now)) }
+    requires all_fit { length (A.Catalogue.meaning book) + length (B.Catalogue.meaning table) ≤ most_modules }
+    ensures { IfOk result (λ s. string_bytes s ≡ modules_shown (A.Catalogue.meaning book) (B.Catalogue.meaning table)) }
 {
-    match request {
-        Request::Comparisons => comparisons_text(heap, catalogue),
-        Request::Comparison(new, old) => comparison_text(heap, catalogue, new, old),
-        Request::Swaps => swaps_text(heap, catalogue),
-    }
+    let mut text = catalogue_text(heap, BOOK_NAME, &book, 0)?;
+    let first = book.modules();
+    let both = Joined::new(book, table);
+    text.push_str(&catalogue_text(heap, TABLE_NAME, &both, first)?)?;
+    Ok(text)
 }
 
-// What is asked of the modules of the book in the rows, and of those of the table behind them.
+// What is asked of the modules of the book in the rows, and of those of the table. A request is what the arguments say, and no
+// closure could stand for it, since what it asks is generic in the catalogue.
 fn taken_text(
     heap: Global,
     request: Request,
@@ -171,15 +175,22 @@ fn taken_text(
 ) -> Result<String, AllocError>
     requires places { taken.places ≤ vec_len rows.now.places }
     requires modules { taken.modules ≤ vec_len rows.now.modules }
-    ensures { IfOk result (λ s. string_bytes s ≡ asked_of request (joined (opened (take taken.places rows.now.places.items) (take taken.modules rows.now.modules.items)) (meaning (written taken.table)))) }
+    ensures { IfOk result (λ s. string_bytes s ≡ asked_of request (opened (take taken.places rows.now.places.items) (take taken.modules rows.now.modules.items)) (meaning (written taken.table))) }
 {
+    let table = taken.table;
     let book = Book::over(&rows.places[..taken.places], &rows.modules[..taken.modules]);
-    let both = Joined::new(book, taken.table);
-    answer_text(heap, &both, request)
+    match request {
+        Request::Modules => modules_text(heap, book, table),
+        Request::Comparisons => comparisons_text(heap, &Joined::new(book, table)),
+        Request::Comparison(new, old) => {
+            comparison_text(heap, &Joined::new(book, table), new, old)
+        }
+        Request::Swaps => swaps_text(heap, &Joined::new(book, table)),
+    }
 }
 
-// What is printed of the two files: what is asked of their modules, those of the book before those of the table, or the line of
-// the first file at fault. Want of memory is the only error.
+// What is printed of the two files: what is asked of their modules, or the line of the first file at fault. Want of memory is the
+// only error.
 pub fn output_text(
     heap: Global,
     request: Request,

@@ -53,11 +53,11 @@ module_lines part m =
     ⧺ ascii ", start " ⧺ decimal (start_of m) ⧺ ascii "\n"
     ⧺ numbered (state_line part) 0 m.states
 
--- maker.tab: modules 1; and the modules, under the name of the file that they come from
-unfoldable pub catalogue_lines : List ℕ → Catalogue → List ℕ
-catalogue_lines name ms =
+-- maker.tab: modules 1; and the modules, numbered from k on, under the name of the file that they come from
+unfoldable pub catalogue_lines : List ℕ → ℕ → Catalogue → List ℕ
+catalogue_lines name k ms =
     name ⧺ ascii ": modules " ⧺ decimal (length ms) ⧺ ascii "\n"
-    ⧺ numbered module_lines 0 ms
+    ⧺ numbered module_lines k ms
 
 -- a file that is refused, and why
 abbrev pub refused_line : List ℕ → List ℕ → List ℕ

@@ -6,7 +6,7 @@ use output::{BOOK_NAME, Request, TABLE_NAME, output_text};
 use report::LONGEST_FILE;
 use std::fs::File;
 
-// `bench` and `swaps` read and print alike. It stands in both, since no contract could say what files hold or what is printed.
+// The programs read and print alike. It stands in each, since no contract could say what files hold or what is printed.
 fn main(rt: HostRuntime) -> anyhow::Result<()> {
     let book = file_bytes(rt.alloc(), File::open(&rt, BOOK_NAME), LONGEST_FILE + 1)?;
     let table = file_bytes(rt.alloc(), File::open(&rt, TABLE_NAME), LONGEST_FILE + 1)?;

@@ -1,5 +1,5 @@
 // The lines that tell of a file: what it means, or why it is refused.
-ghost use Rattle.std.specs.Prelude.{◌≡◌, IfOk, IfSome, string_bytes};
+ghost use Rattle.std.specs.Prelude.{◌≡◌, drop, IfOk, IfSome, string_bytes};
 ghost use Rattle.catalogue.specs.Catalogue.{module_in, state_in};
 ghost use Rattle.report.specs.Text.{state_line, module_lines, catalogue_lines, fault_line, refused_line, long_line};
 ghost use Rattle.report.specs.Adding.{Added};
@@ -39,32 +39,36 @@ fn add_module<C: Catalogue>(out: &mut String, catalogue: &C, part: usize) -> Res
     Ok(())
 }
 
-// The lines of a catalogue, under the name of its file.
+// The lines of the modules of a catalogue from one on, under the name of the file that they come from.
 fn add_catalogue<C: Catalogue>(
     out: &mut String,
     name: &str,
     catalogue: &C,
+    first: usize,
 ) -> Result<(), AllocError>
-    ensures { Added out.old out.new (catalogue_lines name.now (C.Catalogue.meaning catalogue.now)) result }
+    ensures { Added out.old out.new (catalogue_lines name.now first (drop first (C.Catalogue.meaning catalogue.now))) result }
 {
-    let count = catalogue.modules();
+    let end = catalogue.modules();
+    let count = end.saturating_sub(first);
     writeln!(out, "{name}: modules {count}")?;
-    for part in 0..count {
+    for part in first..end {
         add_module(out, catalogue, part)?;
     }
     Ok(())
 }
 
-// What a file means, under its name.
+// What the modules of a catalogue mean from one on, under the name of the file that they come from. A file that stands behind
+// others in a catalogue is shown so, with the numbers that its modules have there.
 pub fn catalogue_text<C: Catalogue>(
     heap: Global,
     name: &str,
     catalogue: &C,
+    first: usize,
 ) -> Result<String, AllocError>
-    ensures { IfOk result (λ s. string_bytes s ≡ catalogue_lines name.now (C.Catalogue.meaning catalogue.now)) }
+    ensures { IfOk result (λ s. string_bytes s ≡ catalogue_lines name.now first (drop first (C.Catalogue.meaning catalogue.now))) }
 {
     let mut out = String::new(heap);
-    add_catalogue(&mut out, name, catalogue)?;
+    add_catalogue(&mut out, name, catalogue, first)?;
     Ok(out)
 }
 
