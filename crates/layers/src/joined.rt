@@ -24,9 +24,18 @@ enum Place {
 impl<A: Catalogue, B: Catalogue> Joined<A, B> {
     // Puts the second catalogue behind the first.
     pub fn new(front: A, back: B) -> Joined<A, B>
-        ensures { joined_meaning A.Catalogue.meaning B.Catalogue.meaning result ≡ joined (A.Catalogue.meaning front) (B.Catalogue.meaning back) }
+        ensures means { joined_meaning A.Catalogue.meaning B.Catalogue.meaning result ≡ joined (A.Catalogue.meaning front) (B.Catalogue.meaning back) }
+        ensures front { A.Catalogue.meaning result.front ≡ A.Catalogue.meaning front }
+        ensures back { B.Catalogue.meaning result.back ≡ B.Catalogue.meaning back }
     {
         Joined { front, back }
+    }
+
+    // The catalogue in front.
+    pub fn front(&self) -> &A
+        ensures { result.now ≡ self.now.front }
+    {
+        &self.front
     }
 
     // The place of a module, if it is there.

@@ -17,19 +17,18 @@ use Rattle.table_format.proofs.FromBytes.{count_modules}
 use Rattle.table_format.proofs.Taken.{taken_none}
 use Rattle.report.specs.Text.{catalogue_lines}
 use Rattle.output.specs.Output.{book_name, table_name, modules_shown}
+use Rattle.output.specs.Showing.{joined_shown}
 
 -- where two catalogues fit into one, nothing is cut off the one behind
 behind : (front back : Catalogue) → length front + length back ≤ most_modules → drop (length front) (joined front back) ≡ back
 unfolding joined
 behind front back l = ap (drop (length front)) (take_all most_modules (front ++ back) (omega (arith, l, length-append front back))) ∙ drop-append_seam front back
 
-pub both_shown : (front back both : Catalogue) (k : ℕ) (s t r : List ℕ) → length front + length back ≤ most_modules → k ≡ length front → both ≡ joined front back → s ≡ catalogue_lines book_name 0 front → t ≡ catalogue_lines table_name k (drop k both) → r ≡ s ++ t → r ≡ modules_shown front back
-both_shown front back both k s t r l ek eb es et er =
-    er ∙ ap (λ (x : List ℕ). x ++ t) es
-    ∙ ap (λ (x : List ℕ). catalogue_lines book_name 0 front ++ x) (
-    et ∙ ap (λ j. catalogue_lines table_name j (drop j both)) ek
-    ∙ ap (λ (ms : Catalogue). catalogue_lines table_name (length front) (drop (length front) ms)) eb
-    ∙ ap (catalogue_lines table_name (length front)) (behind front back l))
+-- so they are shown as they stand
+pub as_joined : (front front' back back' : Catalogue) → front ≡ front' → back ≡ back' → length front' + length back' ≤ most_modules → joined_shown front back ≡ modules_shown front' back'
+as_joined front front' back back' ef eb l =
+    ap (λ (ms : Catalogue). joined_shown ms back) ef ∙ ap (joined_shown front') eb
+    ∙ ap (λ (ms : Catalogue). catalogue_lines book_name 0 front' ++ catalogue_lines table_name (length front') ms) (behind front' back' l)
 
 -- how many modules the files may have
 pub opened_few : (ps : List Place) (ms : List ModuleRow) → length (opened ps ms) ≤ length ms

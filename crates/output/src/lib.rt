@@ -1,15 +1,15 @@
 // What the programs print of the two files that they read: a planner's book and a maker's table.
 #![tactic(auto)]
 
-ghost use Rattle.std.specs.Prelude.{◌≡◌, ◌≢◌, ◌+◌, ◌≤◌, length, take, IfOk, Some, string_bytes, vec_len};
-ghost use Rattle.catalogue.specs.Catalogue.{most_modules};
+ghost use Rattle.std.specs.Prelude.{◌≡◌, ◌≢◌, ◌≤◌, take, IfOk, Some, string_bytes, vec_len};
 ghost use Rattle.rows.specs.Opening.{opened};
 ghost use Rattle.table_format.specs.Reading.{meaning};
 ghost use Rattle.maker_table.specs.Table.{written};
 ghost use Rattle.table_format.specs.declared.fault.TableFault.TheVariants.{NoMemory};
 ghost use Rattle.output.specs.declared.FileFault.TheVariants.{Book as BookAt, Table as TableAt};
-ghost use Rattle.output.specs.Output.{place_rows, module_rows, file_fault_text, file_fault_line, modules_shown, asked_of, output};
+ghost use Rattle.output.specs.Output.{place_rows, module_rows, file_fault_text, file_fault_line, asked_of, output};
 ghost use Rattle.output.specs.Taking.{Takes};
+ghost use Rattle.output.specs.Showing.{printed};
 
 use book::Book;
 use book_text::{BookFault, read};
@@ -18,7 +18,7 @@ use comparison_text::{comparison_text, comparisons_text};
 use layers::Joined;
 use maker_table::Table;
 pub use report::{BOOK_NAME, TABLE_NAME};
-use report::{LONGEST_FILE, catalogue_text};
+use report::{CatalogueText, LONGEST_FILE};
 use rows::{MOST_MODULES, ModuleRow, Place};
 use std::alloc::{AllocError, Global};
 use std::error::Error;
@@ -91,7 +91,7 @@ pub enum Request {
 
 // The rows that a book is read into.
 #[derive(Drop)]
-struct Rows {
+pub struct Rows {
     places: Vec<Place>,
     modules: Vec<ModuleRow>,
     ghost places_len: { vec_len places ≡ place_rows },
@@ -99,7 +99,8 @@ struct Rows {
 }
 
 impl Rows {
-    fn new(heap: Global) -> Result<Rows, AllocError> {
+    // Rows for a book as large as it may be. Want of memory is the only error.
+    pub fn new(heap: Global) -> Result<Rows, AllocError> {
         let places = vec![in heap; Place::default(); PLACE_ROWS]?;
         let modules = vec![in heap; ModuleRow::default(); MODULE_ROWS]?;
         Ok(Rows { places, modules })
@@ -148,49 +149,79 @@ fn refused_text(heap: Global, why: FileFault) -> Result<String, AllocError>
     format!(in heap; "{why}\n")
 }
 
-// What the modules of the book mean, then what those of the table do: each file's under its name, with the numbers that they have
-// where the two are joined.
-fn modules_text<A: Catalogue + Drop, B: Catalogue + Drop>(
-    heap: Global,
-    book: A,
-    table: B,
-) -> Result<String, AllocError>
-    requires all_fit { length (A.Catalogue.meaning book) + length (B.Catalogue.meaning table) ≤ most_modules }
-    ensures { IfOk result (λ s. string_bytes s ≡ modules_shown (A.Catalogue.meaning book) (B.Catalogue.meaning table)) }
-{
-    let mut text = catalogue_text(heap, BOOK_NAME, &book, 0)?;
-    let first = book.modules();
-    let both = Joined::new(book, table);
-    text.push_str(&catalogue_text(heap, TABLE_NAME, &both, first)?)?;
-    Ok(text)
+// What is printed of the two files. A text is kept whole. Of the modules there can be far more text than memory, so they are kept as a
+// catalogue, and print themselves line by line.
+#[derive(Drop)]
+pub enum Printout<'a> {
+    Text(String),
+    Modules(Joined<Book<'a>, Table>),
+}
+
+impl fmt::Display for Printout<'_> {
+    ghost output = { λ s. Some (printed s) };
+
+    fn fmt<W: fmt::Write>(&self, f: &mut fmt::Formatter<W>) -> fmt::Result {
+        match self {
+            Printout::Text(text) => write!(f, "{text}"),
+            Printout::Modules(both) => {
+                let book = CatalogueText {
+                    name: BOOK_NAME,
+                    catalogue: both.front(),
+                    first: 0,
+                };
+                let table = CatalogueText {
+                    name: TABLE_NAME,
+                    catalogue: both,
+                    first: both.front().modules(),
+                };
+                write!(f, "{book}{table}")
+            }
+        }
+    }
 }
 
 // What is asked of the modules of the book in the rows, and of those of the table. A request is what the arguments say, and no
 // closure could stand for it, since what it asks is generic in the catalogue.
-fn taken_text(
+fn taken_shown<'a>(
     heap: Global,
     request: Request,
-    rows: &Rows,
+    rows: &'a Rows,
     taken: Taken,
-) -> Result<String, AllocError>
+) -> Result<Printout<'a>, AllocError>
     requires places { taken.places ≤ vec_len rows.now.places }
     requires modules { taken.modules ≤ vec_len rows.now.modules }
-    ensures { IfOk result (λ s. string_bytes s ≡ asked_of request (opened (take taken.places rows.now.places.items) (take taken.modules rows.now.modules.items)) (meaning (written taken.table))) }
+    ensures { IfOk result (λ s. printed s ≡ asked_of request (opened (take taken.places rows.now.places.items) (take taken.modules rows.now.modules.items)) (meaning (written taken.table))) }
 {
-    let table = taken.table;
     let book = Book::over(&rows.places[..taken.places], &rows.modules[..taken.modules]);
+    let both = Joined::new(book, taken.table);
     match request {
-        Request::Modules => modules_text(heap, book, table),
-        Request::Comparisons => comparisons_text(heap, &Joined::new(book, table)),
-        Request::Comparison(new, old) => {
-            comparison_text(heap, &Joined::new(book, table), new, old)
-        }
-        Request::Swaps => swaps_text(heap, &Joined::new(book, table)),
+        Request::Modules => Ok(Printout::Modules(both)),
+        Request::Comparisons => Ok(Printout::Text(comparisons_text(heap, &both)?)),
+        Request::Comparison(new, old) => Ok(Printout::Text(comparison_text(
+            heap, &both, new, old,
+        )?)),
+        Request::Swaps => Ok(Printout::Text(swaps_text(heap, &both)?)),
     }
 }
 
 // What is printed of the two files: what is asked of their modules, or the line of the first file at fault. Want of memory is the
 // only error.
+pub fn show<'a>(
+    heap: Global,
+    request: Request,
+    book: &[u8],
+    table: Vec<u8>,
+    rows: &'a mut Rows,
+) -> Result<Printout<'a>, AllocError>
+    ensures { IfOk result (λ s. printed s ≡ output request book.now table.items) }
+{
+    match take_files(heap, book, table, rows) {
+        Ok(taken) => taken_shown(heap, request, rows, taken),
+        Err(fault) => Ok(Printout::Text(refused_text(heap, fault)?)),
+    }
+}
+
+// The same as one text.
 pub fn output_text(
     heap: Global,
     request: Request,
@@ -200,8 +231,6 @@ pub fn output_text(
     ensures { IfOk result (λ s. string_bytes s ≡ output request book.items table.items) }
 {
     let mut rows = Rows::new(heap)?;
-    match take_files(heap, &book, table, &mut rows) {
-        Ok(taken) => taken_text(heap, request, &rows, taken),
-        Err(fault) => refused_text(heap, fault),
-    }
+    let shown = show(heap, request, &book, table, &mut rows)?;
+    format!(in heap; "{shown}")
 }

@@ -3,7 +3,7 @@
 
 mod words;
 
-pub use words::{ActionText, catalogue_text, fault_text, long_text, refused_text};
+pub use words::{ActionText, CatalogueText, fault_text, long_text, refused_text};
 
 // A file may have this many bytes.
 pub const LONGEST_FILE: usize = 65_536;

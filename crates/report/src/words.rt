@@ -1,18 +1,17 @@
-// The words of a line: an action, a tick, a list of moves or of urgent actions.
+// The words of a line: an action, a tick, a list of moves or of urgent actions. Each is a value that prints itself, so that a text of any
+// length is printed without being kept.
 ghost use Rattle.std.specs.Prelude.{Some};
 ghost use Rattle.action.specs.Sets.{members};
 ghost use Rattle.catalogue.specs.Catalogue.{state_in};
 ghost use Rattle.report.specs.Text.{action_text, move_text, tick_word, listed};
-ghost use Rattle.report.specs.Adding.{Added};
 
 use action::ActionSet;
 use catalogue::{Catalogue, Move, Moves};
-use std::alloc::AllocError;
 use std::fmt;
 
 mod lines;
 
-pub use lines::{catalogue_text, fault_text, long_text, refused_text};
+pub use lines::{CatalogueText, fault_text, long_text, refused_text};
 
 // An action, to be written as in a book: `?7`, `!7` or `i`.
 #[derive(Clone, Copy)]
@@ -64,38 +63,47 @@ impl fmt::Display for TickText {
     }
 }
 
-// The moves of a state, each with a space in front. One function for this list and the next would take the walk, a closure
-// for what is printed of an item, and clauses on both, to save six lines.
-fn add_moves<C: Catalogue>(
-    out: &mut String,
-    catalogue: &C,
-    part: usize,
-    code: u32,
-) -> Result<(), AllocError>
-    ensures { Added out.old out.new (listed move_text (state_in (C.Catalogue.meaning catalogue.now) part code).moves) result }
-{
-    let mut rest = Moves::of(catalogue, part, code);
-    let Some(first) = rest.next() else {
-        return write!(out, " -");
-    };
-    write!(out, " {}", MoveText(first))?;
-    for step in rest {
-        write!(out, " {}", MoveText(step))?;
+// The urgent actions of a state, in rising order, each with a space in front.
+#[derive(Clone, Copy)]
+struct UrgentText(ActionSet);
+
+impl fmt::Display for UrgentText {
+    ghost output = { λ u. Some (listed action_text (members u.0)) };
+
+    fn fmt<W: fmt::Write>(&self, f: &mut fmt::Formatter<W>) -> fmt::Result {
+        let mut rest = self.0.iter();
+        let Some(first) = rest.next() else {
+            return write!(f, " -");
+        };
+        write!(f, " {}", ActionText(first))?;
+        for action in rest {
+            write!(f, " {}", ActionText(action))?;
+        }
+        Ok(())
     }
-    Ok(())
 }
 
-// The urgent actions of a state, in rising order, each with a space in front.
-fn add_urgent(out: &mut String, urgent: ActionSet) -> Result<(), AllocError>
-    ensures { Added out.old out.new (listed action_text (members urgent)) result }
-{
-    let mut rest = urgent.iter();
-    let Some(first) = rest.next() else {
-        return write!(out, " -");
-    };
-    write!(out, " {}", ActionText(first))?;
-    for action in rest {
-        write!(out, " {}", ActionText(action))?;
+// The moves of a state, each with a space in front. One type for this list and the one before would take the walk and what is printed of
+// an item as parameters, with clauses on both, to save six lines.
+#[derive(Drop)]
+struct MovesText<'a, C> {
+    catalogue: &'a C,
+    part: usize,
+    code: u32,
+}
+
+impl<C: Catalogue> fmt::Display for MovesText<'_, C> {
+    ghost output = { λ m. Some (listed move_text (state_in (C.Catalogue.meaning m.catalogue.now) m.part m.code).moves) };
+
+    fn fmt<W: fmt::Write>(&self, f: &mut fmt::Formatter<W>) -> fmt::Result {
+        let mut rest = Moves::of(self.catalogue, self.part, self.code);
+        let Some(first) = rest.next() else {
+            return write!(f, " -");
+        };
+        write!(f, " {}", MoveText(first))?;
+        for step in rest {
+            write!(f, " {}", MoveText(step))?;
+        }
+        Ok(())
     }
-    Ok(())
 }

@@ -1,75 +1,94 @@
 // The lines that tell of a file: what it means, or why it is refused.
-ghost use Rattle.std.specs.Prelude.{◌≡◌, drop, IfOk, IfSome, string_bytes};
+ghost use Rattle.std.specs.Prelude.{◌≡◌, drop, IfOk, IfSome, Some, string_bytes};
 ghost use Rattle.catalogue.specs.Catalogue.{module_in, state_in};
 ghost use Rattle.report.specs.Text.{state_line, module_lines, catalogue_lines, fault_line, refused_line, long_line};
-ghost use Rattle.report.specs.Adding.{Added};
 
-use super::{TickText, add_moves, add_urgent};
+use super::{MovesText, TickText, UrgentText};
 use catalogue::Catalogue;
 use std::alloc::{AllocError, Global};
 use std::fmt;
 
 // The line of a state.
-fn add_state<C: Catalogue>(
-    out: &mut String,
-    catalogue: &C,
+#[derive(Drop)]
+struct StateLine<'a, C> {
+    catalogue: &'a C,
     part: usize,
     code: u32,
-) -> Result<(), AllocError>
-    ensures { Added out.old out.new (state_line part code (state_in (C.Catalogue.meaning catalogue.now) part code)) result }
-{
-    let tick = TickText(catalogue.tick(part, code));
-    write!(out, "{part}.{code}: tick {tick}; urgent")?;
-    add_urgent(out, catalogue.urgent(part, code))?;
-    write!(out, "; moves")?;
-    add_moves(out, catalogue, part, code)?;
-    writeln!(out)
+}
+
+impl<C: Catalogue> fmt::Display for StateLine<'_, C> {
+    ghost output = { λ s. Some (state_line s.part s.code (state_in (C.Catalogue.meaning s.catalogue.now) s.part s.code)) };
+
+    fn fmt<W: fmt::Write>(&self, f: &mut fmt::Formatter<W>) -> fmt::Result {
+        let part = self.part;
+        let code = self.code;
+        let tick = TickText(self.catalogue.tick(part, code));
+        let urgent = UrgentText(self.catalogue.urgent(part, code));
+        let moves = MovesText {
+            catalogue: self.catalogue,
+            part,
+            code,
+        };
+        writeln!(
+            f,
+            "{part}.{code}: tick {tick}; urgent{urgent}; moves{moves}"
+        )
+    }
 }
 
 // The lines of a module: its own, and those of its states.
-fn add_module<C: Catalogue>(out: &mut String, catalogue: &C, part: usize) -> Result<(), AllocError>
-    ensures { Added out.old out.new (module_lines part (module_in (C.Catalogue.meaning catalogue.now) part)) result }
-{
-    let codes = catalogue.codes(part).unwrap_or(0);
-    let start = catalogue.start(part).unwrap_or(0);
-    writeln!(out, "module {part}: codes {codes}, start {start}")?;
-    for code in 0..codes {
-        add_state(out, catalogue, part, code)?;
-    }
-    Ok(())
+#[derive(Drop)]
+struct ModuleLines<'a, C> {
+    catalogue: &'a C,
+    part: usize,
 }
 
-// The lines of the modules of a catalogue from one on, under the name of the file that they come from.
-fn add_catalogue<C: Catalogue>(
-    out: &mut String,
-    name: &str,
-    catalogue: &C,
-    first: usize,
-) -> Result<(), AllocError>
-    ensures { Added out.old out.new (catalogue_lines name.now first (drop first (C.Catalogue.meaning catalogue.now))) result }
-{
-    let end = catalogue.modules();
-    let count = end.saturating_sub(first);
-    writeln!(out, "{name}: modules {count}")?;
-    for part in first..end {
-        add_module(out, catalogue, part)?;
+impl<C: Catalogue> fmt::Display for ModuleLines<'_, C> {
+    ghost output = { λ m. Some (module_lines m.part (module_in (C.Catalogue.meaning m.catalogue.now) m.part)) };
+
+    fn fmt<W: fmt::Write>(&self, f: &mut fmt::Formatter<W>) -> fmt::Result {
+        let part = self.part;
+        let codes = self.catalogue.codes(part).unwrap_or(0);
+        let start = self.catalogue.start(part).unwrap_or(0);
+        writeln!(f, "module {part}: codes {codes}, start {start}")?;
+        for code in 0..codes {
+            let line = StateLine {
+                catalogue: self.catalogue,
+                part,
+                code,
+            };
+            write!(f, "{line}")?;
+        }
+        Ok(())
     }
-    Ok(())
 }
 
-// What the modules of a catalogue mean from one on, under the name of the file that they come from. A file that stands behind
-// others in a catalogue is shown so, with the numbers that its modules have there.
-pub fn catalogue_text<C: Catalogue>(
-    heap: Global,
-    name: &str,
-    catalogue: &C,
-    first: usize,
-) -> Result<String, AllocError>
-    ensures { IfOk result (λ s. string_bytes s ≡ catalogue_lines name.now first (drop first (C.Catalogue.meaning catalogue.now))) }
-{
-    let mut out = String::new(heap);
-    add_catalogue(&mut out, name, catalogue, first)?;
-    Ok(out)
+// What the modules of a catalogue mean from one on, under the name of the file that they come from. A file that stands behind others in
+// a catalogue is shown so, with the numbers that its modules have there.
+#[derive(Drop)]
+pub struct CatalogueText<'a, C> {
+    pub name: &'a str,
+    pub catalogue: &'a C,
+    pub first: usize,
+}
+
+impl<C: Catalogue> fmt::Display for CatalogueText<'_, C> {
+    ghost output = { λ t. Some (catalogue_lines t.name.now t.first (drop t.first (C.Catalogue.meaning t.catalogue.now))) };
+
+    fn fmt<W: fmt::Write>(&self, f: &mut fmt::Formatter<W>) -> fmt::Result {
+        let name = self.name;
+        let end = self.catalogue.modules();
+        let count = end.saturating_sub(self.first);
+        writeln!(f, "{name}: modules {count}")?;
+        for part in self.first..end {
+            let lines = ModuleLines {
+                catalogue: self.catalogue,
+                part,
+            };
+            write!(f, "{lines}")?;
+        }
+        Ok(())
+    }
 }
 
 // Why a file is refused, under its name: the number of the refusal, and its place in the file. It stays as callers know it; the
