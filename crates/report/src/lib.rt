@@ -1,9 +1,9 @@
-// What is printed of a catalogue, and of a file that is refused.
+// What is printed of a catalogue; and which files the programs read.
 #![tactic(auto)]
 
 mod words;
 
-pub use words::{ActionText, CatalogueText, fault_text, long_text, refused_text};
+pub use words::{ActionText, CatalogueText};
 
 // A file may have this many bytes.
 pub const LONGEST_FILE: usize = 65_536;

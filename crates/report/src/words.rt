@@ -11,7 +11,7 @@ use std::fmt;
 
 mod lines;
 
-pub use lines::{CatalogueText, fault_text, long_text, refused_text};
+pub use lines::CatalogueText;
 
 // An action, to be written as in a book: `?7`, `!7` or `i`.
 #[derive(Clone, Copy)]
