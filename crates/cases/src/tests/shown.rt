@@ -1,4 +1,4 @@
-// What is shown of a table beside an empty book.
+// What is shown of a table beside an empty book, and of files at fault.
 use super::bytes_of;
 use output::{Request, output_text};
 use std::test::Fail;
@@ -38,6 +38,43 @@ fn lengths(rt: HostRuntime) -> Result<(), Fail> {
     for (length, text) in LENGTHS {
         let bytes = vec![in rt.alloc(); 0u8; length]?;
         let found = output_text(rt.alloc(), Request::Modules, Vec::new(rt.alloc()), bytes)?;
+        assert_eq!(rt; found.as_str(), text);
+    }
+    Ok(())
+}
+
+// The book is at fault before a table that is: at a word, or at a place of a module.
+const BOOKS: [(&str, &str); 4] = [
+    ("module A {", "book.txt 2 10\n"),
+    ("module A { X = 0; } #", "book.txt 1 20\n"),
+    ("module A { X = 0; Y = ?1.0; Z = w.Z; }", "book.txt 8 0 3\n"),
+    (
+        "module A { X = 0; } module B { X = w.w.w.w.w.w.w.w.w.w.w.w.w.w.w.w.0; }",
+        "book.txt 9 1 16\n",
+    ),
+];
+
+#[test]
+fn books(rt: HostRuntime) -> Result<(), Fail> {
+    for (book, text) in BOOKS {
+        let book = book.as_bytes().to_vec(rt.alloc())?;
+        let found = output_text(rt.alloc(), Request::Modules, book, Vec::new(rt.alloc()))?;
+        assert_eq!(rt; found.as_str(), text);
+    }
+    Ok(())
+}
+
+// A book of spaces has no module, so the empty table behind it is told.
+const BOOK_LENGTHS: [(usize, &str); 2] = [
+    (65_536, "maker.tab 11 0\n"),
+    (65_537, "book.txt long\n"),
+];
+
+#[test]
+fn book_lengths(rt: HostRuntime) -> Result<(), Fail> {
+    for (length, text) in BOOK_LENGTHS {
+        let book = vec![in rt.alloc(); b' '; length]?;
+        let found = output_text(rt.alloc(), Request::Modules, book, Vec::new(rt.alloc()))?;
         assert_eq!(rt; found.as_str(), text);
     }
     Ok(())
