@@ -1,3 +1,4 @@
 pub mod Output
 pub mod Taking
 pub mod Showing
+pub mod Worked

@@ -10,6 +10,7 @@ ghost use Rattle.output.specs.declared.FileFault.TheVariants.{Book as BookAt, Ta
 ghost use Rattle.output.specs.Output.{place_rows, module_rows, file_fault_text, file_fault_line, asked_of, output};
 ghost use Rattle.output.specs.Taking.{Takes};
 ghost use Rattle.output.specs.Showing.{printed};
+ghost use Rattle.output.specs.Worked.{Worked};
 
 use book::Book;
 use book_text::{BookFault, read};
@@ -206,6 +207,7 @@ fn taken_shown<'a>(
 
 // What is printed of the two files: what is asked of their modules, or the line of the first file at fault. Want of memory is the
 // only error.
+#[tactic(auto, using(crate::proofs::Worked::worked))]
 pub fn show<'a>(
     heap: Global,
     request: Request,
@@ -213,7 +215,8 @@ pub fn show<'a>(
     table: Vec<u8>,
     rows: &'a mut Rows,
 ) -> Result<Printout<'a>, AllocError>
-    ensures { IfOk result (λ s. printed s ≡ output request book.now table.items) }
+    ensures shown { IfOk result (λ s. printed s ≡ output request book.now table.items) }
+    ensures worked { Worked }
 {
     match take_files(heap, book, table, rows) {
         Ok(taken) => taken_shown(heap, request, rows, taken),
