@@ -76,6 +76,12 @@ renamed_internal f e a h = (back a h, (λ p. ap (renamed f) p))
     back (pos (suc n)) l p = absurd ((full_signal f e n (omega arith)).0 p)
     back (negsuc n) l p = absurd ((full_signal f e n (omega arith)).0 (neg_internal (get_or f n internal) p))
 
+-- opposites become opposites
+pub renamed_neg : (f : List ℤ) (a : ℤ) → renamed f (neg_ℤ a) ≡ neg_ℤ (renamed f a)
+renamed_neg f (pos zero) = refl
+renamed_neg f (pos (suc n)) = refl
+renamed_neg f (negsuc n) = sym (neg_neg (get_or f n internal))
+
 -- each port sent to itself
 kept_at : (n k i : ℕ) → i < n → get_or (kept_from n k) i internal ≡ pos (k + i)
 kept_at zero k i l = absurd (omega arith)
