@@ -38,10 +38,15 @@ summary_same (Wait j) n g h i e = rw (e j (ltb-true j n i))
 summary_same (Sum l r) n g h i e = rw (e l (ltb-true l n (both_l (ltb l n) (ltb r n) i)), e r (ltb-true r n (both_r (ltb l n) (ltb r n) i)))
 summary_same (Name j) n g h i e = e j (ltb-true j n i)
 
--- followed through no place, each summary is the default
-pub first_round : (ps : List Place) (s : Summary) → length ps ≤ book_places → (s.guarded ≡ false) × ((s.depth ≡ 0) × (s.moves ≡ 0)) → Summarizes ps 0 (replicate book_places s)
+-- followed through no place, each summary is the one that is told beyond a list
+pub first_round : (ps : List Place) (ss : List Summary) → ((i : ℕ) → get_or ss i unknown ≡ unknown) → Summarizes ps 0 ss
 unfolding ends depth moves
-first_round ps s few h i l = get_or-replicate book_places i s unknown (omega arith) ∙ ap (λ g. record { guarded = g; depth = s.depth; moves = s.moves }) h.0 ∙ summary_eq false _ _ _ _ h.1.0 h.1.1
+first_round ps ss h i l = h i
+
+-- a module's places, each with the default summary
+pub default_round : (ps : List Place) (s : Summary) → length ps ≤ book_places → (s.guarded ≡ false) × ((s.depth ≡ 0) × (s.moves ≡ 0)) → Summarizes ps 0 (replicate book_places s)
+unfolding ends depth moves
+default_round ps s few h i l = get_or-replicate book_places i s unknown (omega arith) ∙ ap (λ g. record { guarded = g; depth = s.depth; moves = s.moves }) h.0 ∙ summary_eq false _ _ _ _ h.1.0 h.1.1
 
 pub next_round : (ps : List Place) (f : ℕ) (old new : List Summary) → AllInside ps → Summarizes ps f old → ((i : ℕ) → i < length ps → get_or new i unknown ≡ summary_by (row ps i) (λ j. get_or old j unknown)) → Summarizes ps (f + 1) new
 next_round ps f old new a k h i l =

@@ -1,9 +1,9 @@
 use Rattle.std.proofs.Common.{refl, arith, rules, length, ◌≡◌}
-use Rattle.trial.proofs.Rounds.{first_round, next_round}
+use Rattle.trial.proofs.Rounds.{default_round, next_round}
 use Rattle.trial.proofs.module.Module.summarize.Goals as goal
 
 pub loop-round-init : goal.loop-round-init
-loop-round-init c = (refl, first_round c.args.self.now.places.now c.default-summaries.result c.args.self.now.few c.default-summaries.ensures)
+loop-round-init c = (refl, default_round c.args.self.now.places.now c.default-summaries.result c.args.self.now.few c.default-summaries.ensures)
 
 pub loop-round-preserved : goal.loop-round-preserved
 loop-round-preserved c =
