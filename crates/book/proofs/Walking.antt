@@ -67,6 +67,12 @@ pub left : List Place → ℕ → ℕ
 left ps i = least (λ f. ends ps f i) (length ps)
 
 module _ (ps : List Place) (ok : WellFormed ps) where
+  pub next_of : (f i : ℕ) (p : Place) → i < length ps → ends ps f i ≡ true → row ps i ≡ p → Nexts ps ok (f - 1) p
+  next_of zero i p l e q = absurd (not_zero ps i e)
+  next_of (suc f) i p l e q =
+      let z : f ≡ suc f - 1 = omega arith in
+      subst (λ n. Nexts ps ok n p) z (subst (λ x. Nexts ps ok f x) q (nexts ps ok f i l e))
+
   -- a follower is a place, and less of the walk is left there
   abbrev pub Follows : ℕ → ℕ → Type 0
   Follows i j = (j < length ps) × (left ps j < left ps i)
@@ -96,12 +102,12 @@ module _ (ps : List Place) (ok : WellFormed ps) where
           each (Sum m o) h = (one m h.0, one o h.1)
           each (Name j) h = one j h
 
-  pub next_of : (i : ℕ) (p : Place) → i < length ps → row ps i ≡ p → Followed i p
-  next_of i p l q = subst (λ x. Followed i x) q (followed i l)
+  pub followed_row : (i : ℕ) (p : Place) → i < length ps → row ps i ≡ p → Followed i p
+  followed_row i p l q = subst (λ x. Followed i x) q (followed i l)
 
   pub next_on : (i j : ℕ) → i < length ps → (row ps i ≡ Wait j) ⊎ (row ps i ≡ Name j) → Follows i j
-  next_on i j l (inl q) = next_of i (Wait j) l q
-  next_on i j l (inr q) = next_of i (Name j) l q
+  next_on i j l (inl q) = followed_row i (Wait j) l q
+  next_on i j l (inr q) = followed_row i (Name j) l q
 
   -- a place without moves has no urgent action
   quiet_by : (f i k : ℕ) (a : ℤ) → i < length ps → ends ps f i ≡ true → length (moves_of ps i) ≡ 0 → is_urgent ps i k a ≡ false

@@ -1,17 +1,17 @@
 use Rattle.std.proofs.Common.{◌*◌, ◌∙◌, arith, w8, SFits, rules}
 use Rattle.std.proofs.lemmas.Int.{to_z-of_z}
 use Rattle.rows.specs.declared.row.Place.TheVariants.{Sum}
-use Rattle.book.proofs.Walking.{next_of, next_on, move_nil, move_act, move_on, move_left, move_right}
+use Rattle.book.proofs.Walking.{followed_row, next_on, move_nil, move_act, move_on, move_left, move_right}
 use Rattle.book.proofs.equations.Equations.+move_at.Goals as goal
 
 pub move_at-requires : goal.move_at-requires
 move_at-requires t c =
-    let n = next_of c.args.self.now.places.now c.args.self.now.known.well_formed c.args.place (Sum c.in-Sum.l c.in-Sum.r) c.requires c.in-Sum.is in
+    let n = followed_row c.args.self.now.places.now c.args.self.now.known.well_formed c.args.place (Sum c.in-Sum.l c.in-Sum.r) c.requires c.in-Sum.is in
     (omega (arith, n.0.1), n.0.0)
 
 pub move_at-requires-else-number-before : goal.move_at-requires-else-number-before
 move_at-requires-else-number-before t c =
-    let n = next_of c.args.self.now.places.now c.args.self.now.known.well_formed c.args.place (Sum c.in-Sum.l c.in-Sum.r) c.requires c.in-Sum.is in
+    let n = followed_row c.args.self.now.places.now c.args.self.now.known.well_formed c.args.place (Sum c.in-Sum.l c.in-Sum.r) c.requires c.in-Sum.is in
     (omega (arith, n.1.1), n.1.0)
 
 pub move_at-requires-in-Wait : goal.move_at-requires-in-Wait
@@ -29,12 +29,12 @@ returns-in-Act t c =
 
 pub returns-then-number-before : goal.returns-then-number-before
 returns-then-number-before t c =
-    let n = next_of c.args.self.now.places.now c.args.self.now.known.well_formed c.args.place (Sum c.in-Sum.l c.in-Sum.r) c.requires c.in-Sum.is in
+    let n = followed_row c.args.self.now.places.now c.args.self.now.known.well_formed c.args.place (Sum c.in-Sum.l c.in-Sum.r) c.requires c.in-Sum.is in
     c.move_at.ensures ∙ move_left c.args.self.now.places.now c.args.self.now.summaries.now c.args.self.now.known c.args.place c.requires c.args.number c.in-Sum.l c.in-Sum.r c.in-Sum.is n.0.0 c.if-number-before.true
 
 pub returns-else-number-before : goal.returns-else-number-before
 returns-else-number-before t c =
-    let n = next_of c.args.self.now.places.now c.args.self.now.known.well_formed c.args.place (Sum c.in-Sum.l c.in-Sum.r) c.requires c.in-Sum.is in
+    let n = followed_row c.args.self.now.places.now c.args.self.now.known.well_formed c.args.place (Sum c.in-Sum.l c.in-Sum.r) c.requires c.in-Sum.is in
     c.move_at-else-number-before.ensures ∙ move_right c.args.self.now.places.now c.args.self.now.summaries.now c.args.self.now.known c.args.place c.requires c.args.number c.in-Sum.l c.in-Sum.r c.in-Sum.is n.0.0 c.if-number-before.false
 
 pub returns-in-Wait : goal.returns-in-Wait

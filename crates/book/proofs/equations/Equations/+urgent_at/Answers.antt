@@ -2,7 +2,7 @@ use Rattle.std.proofs.Common.{◌&&◌, ap, ◌∙◌, arith, w8, SFits, rules}
 use Rattle.std.proofs.lemmas.Int.{to_z-of_z}
 use Rattle.action.specs.Action.{is_action, same}
 use Rattle.rows.specs.declared.row.Place.TheVariants.{Wait, Sum, Name}
-use Rattle.book.proofs.Walking.{next_of, urgent_nil, urgent_act, urgent_early, urgent_waited, urgent_sum, urgent_name, urgent_quiet}
+use Rattle.book.proofs.Walking.{followed_row, urgent_nil, urgent_act, urgent_early, urgent_waited, urgent_sum, urgent_name, urgent_quiet}
 use Rattle.book.proofs.equations.Equations.+urgent_at.Goals as goal
 
 pub returns-then-self-place-eq0 : goal.returns-then-self-place-eq0
@@ -10,22 +10,22 @@ returns-then-self-place-eq0 t c = urgent_quiet c.args.self.now.places.now c.args
 
 pub urgent_at-requires : goal.urgent_at-requires
 urgent_at-requires t c =
-    let n = next_of c.args.self.now.places.now c.args.self.now.known.well_formed c.args.place (Wait c.in-Wait-2.j) c.requires c.in-Wait-2.is in
+    let n = followed_row c.args.self.now.places.now c.args.self.now.known.well_formed c.args.place (Wait c.in-Wait-2.j) c.requires c.in-Wait-2.is in
     (omega (arith, n.1), n.0)
 
 pub urgent_at-left-requires : goal.urgent_at-left-requires
 urgent_at-left-requires t c =
-    let n = next_of c.args.self.now.places.now c.args.self.now.known.well_formed c.args.place (Sum c.in-Sum.l c.in-Sum.r) c.requires c.in-Sum.is in
+    let n = followed_row c.args.self.now.places.now c.args.self.now.known.well_formed c.args.place (Sum c.in-Sum.l c.in-Sum.r) c.requires c.in-Sum.is in
     (omega (arith, n.0.1), n.0.0)
 
 pub urgent_at-requires-in-Sum : goal.urgent_at-requires-in-Sum
 urgent_at-requires-in-Sum t c =
-    let n = next_of c.args.self.now.places.now c.args.self.now.known.well_formed c.args.place (Sum c.in-Sum.l c.in-Sum.r) c.requires c.in-Sum.is in
+    let n = followed_row c.args.self.now.places.now c.args.self.now.known.well_formed c.args.place (Sum c.in-Sum.l c.in-Sum.r) c.requires c.in-Sum.is in
     (omega (arith, n.1.1), n.1.0)
 
 pub urgent_at-requires-in-Name : goal.urgent_at-requires-in-Name
 urgent_at-requires-in-Name t c =
-    let n = next_of c.args.self.now.places.now c.args.self.now.known.well_formed c.args.place (Name c.in-Name.j) c.requires c.in-Name.is in
+    let n = followed_row c.args.self.now.places.now c.args.self.now.known.well_formed c.args.place (Name c.in-Name.j) c.requires c.in-Name.is in
     (omega (arith, n.1), n.0)
 
 pub returns-in-Nil : goal.returns-in-Nil
