@@ -10,6 +10,7 @@ use rows::Place;
 
 impl Equations<'_> {
     // The urgent set of a place at an age. A place without moves has none; what is below it need not be walked.
+    #[cycle(urgent_at)]
     pub(crate) fn urgent_at(&self, place: usize, age: u32) -> ActionSet
         requires { place < length self.now.places.now }
         ensures { result ≡ urgent_of self.now.places.now place age }
@@ -17,6 +18,16 @@ impl Equations<'_> {
         if self.summaries[place].moves == 0 {
             return ActionSet::empty();
         }
+        self.urgent_below(place, age)
+    }
+
+    // The same by the walk. It stands apart so that a place without moves is told before a register is saved.
+    #[cycle(urgent_at)]
+    #[inline(never)]
+    fn urgent_below(&self, place: usize, age: u32) -> ActionSet
+        requires { place < length self.now.places.now }
+        ensures { result ≡ urgent_of self.now.places.now place age }
+    {
         match self.places[place] {
             Place::Nil => ActionSet::empty(),
             Place::Act(action, _) => ActionSet::only(action),
