@@ -102,15 +102,21 @@ module _ (rows : List Place) (ms : List ModuleRow) where
 
   -- a module row of a book that is not at fault
   module _ (m : ℕ) (q : fault rows ms ≡ None) (l : m < length ms) where
-    accepts : Accepted rows m (row_of ms m)
-    accepts = each_accepted rows ms q m l
+    pub its_row : Accepted rows m (row_of ms m)
+    its_row = each_accepted rows ms q m l
+
+    pub its_part : take ((row_of ms m).first + (row_of ms m).places - (row_of ms m).first) (drop (row_of ms m).first rows) ≡ places_in rows ms m
+    its_part = let z : (row_of ms m).first + (row_of ms m).places - (row_of ms m).first ≡ (row_of ms m).places = omega arith in ap (λ n. take n (drop (row_of ms m).first rows)) z
 
   module _ (m : ℕ) (e : Equations) (h : Found rows ms m (Some e)) where
     taken : Accepted rows m (row_of ms m)
-    taken = accepts m h.0 h.1
+    taken = its_row m h.0 h.1
 
     its_length : length e.places.now ≡ (row_of ms m).places
     its_length = ap length h.2 ∙ places_length rows m (row_of ms m) taken
+
+    pub its_few : length e.places.now ≤ book_places
+    its_few = omega (arith, its_length, taken.few_places)
 
     pub its_start_small : e.start < 256
     its_start_small = omega (arith, h.3, taken.start_known, taken.few_places)
@@ -132,17 +138,17 @@ module _ (b : Book) (m : ℕ) (r : ModuleRow) (ok : false ≡ is_some b.verdict)
   pub none_wrong : fault b.places.now b.modules.now ≡ None
   none_wrong = no_fault b.places.now b.modules.now b.verdict b.tried ok
 
-  pub its_row : Accepted b.places.now m r
-  its_row = subst (λ x. Accepted b.places.now m x) (sym (row.1 _)) (accepts b.places.now b.modules.now m none_wrong row.0)
+  pub held_row : Accepted b.places.now m r
+  held_row = subst (λ x. Accepted b.places.now m x) (sym (row.1 _)) (its_row b.places.now b.modules.now m none_wrong row.0)
 
-  pub its_part : take (r.first + r.places - r.first) (drop r.first b.places.now) ≡ places_in b.places.now b.modules.now m
-  its_part = let z : r.first + r.places - r.first ≡ r.places = omega arith in ap (λ n. take n (drop r.first b.places.now)) z ∙ ap (λ (x : ModuleRow). take x.places (drop x.first b.places.now)) (row.1 _)
+  pub held_part : take (r.first + r.places - r.first) (drop r.first b.places.now) ≡ places_in b.places.now b.modules.now m
+  held_part = let z : r.first + r.places - r.first ≡ r.places = omega arith in ap (λ n. take n (drop r.first b.places.now)) z ∙ ap (λ (x : ModuleRow). take x.places (drop x.first b.places.now)) (row.1 _)
 
-  pub its_few : length (take (r.first + r.places - r.first) (drop r.first b.places.now)) ≤ book_places
-  its_few = omega (arith, length-take {A = Place}, its_row.few_places)
+  pub held_few : length (take (r.first + r.places - r.first) (drop r.first b.places.now)) ≤ book_places
+  held_few = omega (arith, length-take {A = Place}, held_row.few_places)
 
   pub its_known : Known (take (r.first + r.places - r.first) (drop r.first b.places.now)) (get_or b.table.rows m [])
-  its_known = subst (λ x. Known x (get_or b.table.rows m [])) (sym its_part) (record {
-    well_formed = (accepts b.places.now b.modules.now m none_wrong row.0).well_formed;
+  its_known = subst (λ x. Known x (get_or b.table.rows m [])) (sym held_part) (record {
+    well_formed = (its_row b.places.now b.modules.now m none_wrong row.0).well_formed;
     summarized = b.kept (b.tried ∙ none_wrong) m row.0;
   })
