@@ -21,7 +21,7 @@ fn offsets(heap: Global, bytes: &[u8], count: u16, from: usize) -> Result<Vec<u3
     requires short { length bytes.now < 2 ^ 32 }
     ensures { IfOk result (λ found. found.items ≡ offsets bytes.now count from) }
 {
-    let mut found = Vec::new(heap);
+    let mut found = Vec::with_capacity(heap, count as usize)?;
     let mut at = from;
     // Each offset comes from the one before, so there is nothing to go over but how many there are.
     for _ in 0..count {
