@@ -30,7 +30,7 @@ not_same a b n = elim (cases_Bool (same a b)) [ inl t ↦ absurd (n (same_eq a b
 
 -- ── one pair ──
 
-grew_same : (f : Filled) (p q i : ℕ) → i < f.count → Is f.rows.now i p q → Grew f f (added (pairs_in f) (pair p q ∷ []))
+pub grew_same : (f : Filled) (p q i : ℕ) → i < f.count → Is f.rows.now i p q → Grew f f (added (pairs_in f) (pair p q ∷ []))
 grew_same f p q i l e =
     record { same_reference = refl; unranked = λ u. u; more = omega arith; long = refl; rows = sym (one_more_there (pairs_in f) (pair p q) (there f.count f.rows.now i p q l f.indexed.within e)); rest = refl }
 
@@ -221,7 +221,7 @@ moves_full f g h news olds i d wanted e l k u =
     (subst (λ (ys : List Pair). Begins w ys) (sym (by_moves_more news olds i d (pairs_in g) l)) (added_begins w (by_moves (drop (i + 1) news) olds)))
 
 -- the moves of a row and then its ticks
-leads_is : (new old : Module) (xs : List Pair) (p q : ℕ) (news olds : List Move) (s t : Option ℕ)
+pub leads_is : (new old : Module) (xs : List Pair) (p q : ℕ) (news olds : List Move) (s t : Option ℕ)
     → news ≡ (state new p).moves → olds ≡ (state old q).moves → s ≡ (state new p).tick → t ≡ (state old q).tick
     → added xs (leads_to new old (pair p q)) ≡ added (added xs (by_moves news olds)) (both_tick s t)
 unfolding leads_to

@@ -174,10 +174,10 @@ module _ (ms : Catalogue) (new old : ℕ) (lawful : Lawful ms) where
           refused e
           (full_on f g (starts N O ∷ []) (rows N O) e (subst (λ (xs : List Pair). Full f g xs e) first_pair k) (explored_begins N O most_rows 0 (starts N O ∷ [])))
 
-      explored_rows : (h : Filled) → Grew f g (added (pairs_in f) (pair p q ∷ [])) → Grew g h (explored N O most_rows 0 (pairs_in g)) → Grew f h (rows N O)
+      pub explored_rows : (h : Filled) → Grew f g (added (pairs_in f) (pair p q ∷ [])) → Grew g h (explored N O most_rows 0 (pairs_in g)) → Grew f h (rows N O)
       explored_rows h k a = grew_on f g h _ (rows N O) k (grew_is g h _ (rows N O) a (rows_are k))
 
-    refused_later : (f g h : Filled) → f.count ≡ 0 → (e : CompareFault)
+    pub refused_later : (f g h : Filled) → f.count ≡ 0 → (e : CompareFault)
         → Grew f g (added (pairs_in f) (pair p q ∷ [])) → Full g h (explored N O most_rows 0 (pairs_in g)) e → Compares ms new old f.rows.now h.rows.now (Err e)
     refused_later f g h none e k u =
         refused f h none e (full_back f g h (rows N O) _ e k (subst (λ (xs : List Pair). Full g h xs e) (rows_are f g none k) u))
@@ -199,7 +199,7 @@ module _ (ms : Catalogue) (new old : ℕ) (lawful : Lawful ms) where
         let w : g.count ≤ length t = omega (arith, long_alike g.rows.now t g.count a, g.indexed.within) in
         sym (pair_at g.count t 0 (some_row f g k) w) ∙ ap (λ (xs : List Pair). get_or xs 0 (pair 0 0)) (pairs_alike g.rows.now t g.count a ∙ k.rows ∙ b.1)
 
-    accepted : (f g : Filled) (t₃ : List PairRow) → Grew f g (rows N O) → Alike g.rows.now t₃ g.count
+    pub accepted : (f g : Filled) (t₃ : List PairRow) → Grew f g (rows N O) → Alike g.rows.now t₃ g.count
         → ((i : ℕ) → i < g.count → (row t₃ i).rank ≡ rank N O (pairs_in g) (pair_of (row t₃ i)))
         → Compares ms new old f.rows.now t₃ (Ok (record { pairs = g.count; rank = (row t₃ 0).rank }))
     unfolding pair_count first_rank

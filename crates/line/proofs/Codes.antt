@@ -5,12 +5,12 @@ use Rattle.std.specs.Option.{option_map}
 use Rattle.action.specs.Lists.{nth}
 use Rattle.catalogue.specs.Catalogue.{Catalogue, codes, module_in}
 
-codes_some : (ms : Catalogue) (k n : ℕ) → Some n ≡ option_map codes (nth ms k) → n ≡ codes (module_in ms k)
+pub codes_some : (ms : Catalogue) (k n : ℕ) → Some n ≡ option_map codes (nth ms k) → n ≡ codes (module_in ms k)
 codes_some [] k n e = let z : ◌≡◌ {A = ℕ} 0 1 = cc in absurd (omega arith)
 codes_some (m ∷ ms) zero n e = cc
 codes_some (m ∷ ms) (suc k) n e = codes_some ms k n e
 
-codes_none : (ms : Catalogue) (k c : ℕ) → None ≡ option_map codes (nth ms k) → false ≡ ltb c (codes (module_in ms k))
+pub codes_none : (ms : Catalogue) (k c : ℕ) → None ≡ option_map codes (nth ms k) → false ≡ ltb c (codes (module_in ms k))
 codes_none [] k c e = sym (le-ltb c 0 (omega arith))
 codes_none (m ∷ ms) zero c e = let z : ◌≡◌ {A = ℕ} 0 1 = cc in absurd (omega arith)
 codes_none (m ∷ ms) (suc k) c e = codes_none ms k c e
