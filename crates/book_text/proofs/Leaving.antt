@@ -70,7 +70,7 @@ module _ (text : List ℕ) (d : Parser) (P : List Place) (M : List ModuleRow) (a
     done = d.done + 1;
   }
 
-  leave_ok : (P' : List Place) → length P' ≡ length P → is_at d.state Left ≡ true → 0 < length d.lefts.items → Settled text d P P'
+  pub leave_ok : (P' : List Place) → length P' ≡ length P → is_at d.state Left ≡ true → 0 < length d.lefts.items → Settled text d P P'
       → Leads (length P) (length M) (length text) (view text d P M) leave at (view text left_behind P' (set M d.done row_of)) left_behind (Ok tt)
   unfolding view
   leave_ok P' size h z g =

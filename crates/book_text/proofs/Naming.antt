@@ -152,7 +152,7 @@ module _ (text : List ℕ) (d : Parser) (P : List Place) (M : List ModuleRow) (a
   unfolding view
   left_given e = ap (λ (q : State). any (same x) (taken_names (state_of_stage q) (view text d P M))) e ∙ ap (any (same x)) (lefts_in text d.lefts.items)
 
-  left_many : d.state ≡ Left → length x ≤ 16 → given (view text d P M) (name x) ≡ false → 64 ≤ length d.lefts.items
+  pub left_many : d.state ≡ Left → length x ≤ 16 → given (view text d P M) (name x) ≡ false → 64 ≤ length d.lefts.items
       → tried (length P) (length M) (view text d P M) (name x) ≡ stops 7
   unfolding view
   left_many e h f g =

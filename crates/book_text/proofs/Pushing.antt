@@ -95,19 +95,19 @@ module _ (text : List ℕ) (d : Parser) (P : List Place) (M : List ModuleRow) (a
         s',
       )
 
-  wait_no : is_at d.state Term ≡ false → tried (length P) (length M) (view text d P M) wait ≡ stops 2
+  pub wait_no : is_at d.state Term ≡ false → tried (length P) (length M) (view text d P M) wait ≡ stops 2
   unfolding view
   wait_no h = stop_2 (length P) (length M) (view text d P M) wait refl h
 
-  act_no : (a : ℤ) → is_at d.state Term ≡ false → tried (length P) (length M) (view text d P M) (act a) ≡ stops 2
+  pub act_no : (a : ℤ) → is_at d.state Term ≡ false → tried (length P) (length M) (view text d P M) (act a) ≡ stops 2
   unfolding view
   act_no a h = stop_2 (length P) (length M) (view text d P M) (act a) refl h
 
-  plus_no : is_at d.state After ≡ false → tried (length P) (length M) (view text d P M) plus ≡ stops 2
+  pub plus_no : is_at d.state After ≡ false → tried (length P) (length M) (view text d P M) plus ≡ stops 2
   unfolding view
   plus_no h = stop_2 (length P) (length M) (view text d P M) plus refl h
 
-  wait_ok : is_at d.state Term ≡ true
+  pub wait_ok : is_at d.state Term ≡ true
       → Leads (length P) (length M) (length text) (view text d P M) wait at (view text (with_stack Point (pushed d.stack Waiting) d) P M) (with_stack Point (pushed d.stack Waiting) d) (Ok tt)
   unfolding view
   wait_ok h =
@@ -115,7 +115,7 @@ module _ (text : List ℕ) (d : Parser) (P : List Place) (M : List ModuleRow) (a
       pushes wait Point Waiting refl h refl refl refl refl refl refl
       (steady_pushed Point Waiting (poised_at text at d P M st Term e) (modules_at text at d P M st Term e) (lent_at text at d P M st Term e) (told_at text at d P M st Term e))
 
-  act_ok : (a : ℤ) → is_at d.state Term ≡ true
+  pub act_ok : (a : ℤ) → is_at d.state Term ≡ true
       → Leads (length P) (length M) (length text) (view text d P M) (act a) at (view text (with_stack Point (pushed d.stack (Acting a)) d) P M) (with_stack Point (pushed d.stack (Acting a)) d) (Ok tt)
   unfolding view
   act_ok a h =
@@ -123,7 +123,7 @@ module _ (text : List ℕ) (d : Parser) (P : List Place) (M : List ModuleRow) (a
       pushes (act a) Point (Acting a) refl h refl refl refl refl refl refl
       (steady_pushed Point (Acting a) (poised_at text at d P M st Term e) (modules_at text at d P M st Term e) (lent_at text at d P M st Term e) (told_at text at d P M st Term e))
 
-  plus_ok : (j : ℕ) → j ≡ d.rows - 1 → is_at d.state After ≡ true
+  pub plus_ok : (j : ℕ) → j ≡ d.rows - 1 → is_at d.state After ≡ true
       → Leads (length P) (length M) (length text) (view text d P M) plus at (view text (with_stack Term (pushed d.stack (Adding j)) d) P M) (with_stack Term (pushed d.stack (Adding j)) d) (Ok tt)
   unfolding view
   plus_ok j i h =

@@ -331,7 +331,7 @@ module _ (text : List ℕ) (d : Parser) (P : List Place) (M : List ModuleRow) (a
   pub some_left : is_at d.state After ≡ true → 0 < length d.lefts.items
   some_left h = (poised_at text at d P M st After (known d.state After h)).0
 
-  ends_ok : (k : ℕ) (ls : List Label) (l : Label) → k ≡ d.rows - 1 → is_at d.state After ≡ true → length d.stack.floors.items ≡ 0 → d.lefts.items ≡ ls ++ l ∷ []
+  pub ends_ok : (k : ℕ) (ls : List Label) (l : Label) → k ≡ d.rows - 1 → is_at d.state After ≡ true → length d.stack.floors.items ≡ 0 → d.lefts.items ≡ ls ++ l ∷ []
       → Leads (length P) (length M) (length text) (view text d P M) ends at
       (view text (sided_in (ls ++ record { name = l.name; place = k } ∷ [])) P M) (sided_in (ls ++ record { name = l.name; place = k } ∷ [])) (Ok tt)
   unfolding view

@@ -88,7 +88,7 @@ no_blank text from at e h =
     ap (λ (i : ℕ). blank (get_or text i 0)) e ∙ ap blank (sym (get_or-drop from text (prefix_len blank (drop from text)) 0))
     ∙ prefix_len_stops blank (drop from text) 0 (omega arith)
 
-cut_one : (text : List ℕ) (from at end : ℕ) (K : Kind) → at ≡ from + prefix_len blank (drop from text) → at < length text
+pub cut_one : (text : List ℕ) (from at end : ℕ) (K : Kind) → at ≡ from + prefix_len blank (drop from text) → at < length text
     → end ≡ at + size_at (get_or text at 0) (drop (at + 1) text) → K ≡ kind_at (get_or text at 0) (drop (at + 1) text)
     → words_at text from ≡ record { at = at; size = end - at; kind = K } ∷ words_at text end
 cut_one text from at end K e h s k =
