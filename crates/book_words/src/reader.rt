@@ -1,5 +1,6 @@
 // The word reader: it cuts a text into words, and refuses none of them.
 ghost use Rattle.std.specs.Prelude.{◌≡◌, ℕ, ◌+◌, ◌≤◌, Bool, length, drop};
+ghost use Rattle.std.specs.Char.{is_ascii_alphanumeric};
 ghost use Rattle.std.specs.List.{prefix_len};
 ghost use Rattle.book_words.specs.Words.{blank, same, run_kind, mark_kind, port_up_to, port_of, ported};
 ghost use Rattle.book_words.specs.Shown.{kind_of, Spells, NoName, Tells, Cuts};
@@ -14,6 +15,13 @@ fn is_blank(b: u8) -> bool
     ensures { result ≡ blank b }
 {
     matches!(b, b' ' | b'\n')
+}
+
+// A letter or a digit. By ranges: they tell most marks by one comparison.
+fn is_alnum(b: u8) -> bool
+    ensures { result ≡ is_ascii_alphanumeric b }
+{
+    matches!(b, b'0'..=b'9' | b'A'..=b'Z' | b'a'..=b'z')
 }
 
 // A byte that is a word of its own.
@@ -116,13 +124,20 @@ fn act<'a>(action: Option<i8>) -> Word<'a>
 
 // The first word at or behind an offset: a longest run of letters and digits, a `?` or `!` with its digits, or another byte
 // but space and newline. A byte outside the alphabet is a word too, and so is a `?` with no port: whether a word may stand is
-// not asked here.
+// not asked here. Inlined, so that no word is written out only to be read back.
+#[inline(always)]
 pub fn next_word<'a>(text: &'a [u8], from: usize) -> Option<Found<'a>>
     ensures { Cuts text.now from result }
 {
     let at = run_end(text, from, |b| is_blank(*b));
     let b = *text.get(at)?;
+    // Letters and digits first: one table then tells `?`, `!` and the marks.
     match b {
+        _ if is_alnum(b) => {
+            let end = run_end(text, at + 1, |b| b.is_ascii_alphanumeric());
+            let word = run_word(&text[at..end]);
+            Some(Found { at, end, word })
+        }
         b'?' => {
             let end = run_end(text, at + 1, |b| b.is_ascii_digit());
             let word = act(port(&text[at + 1..end]));
@@ -131,11 +146,6 @@ pub fn next_word<'a>(text: &'a [u8], from: usize) -> Option<Found<'a>>
         b'!' => {
             let end = run_end(text, at + 1, |b| b.is_ascii_digit());
             let word = act(port(&text[at + 1..end]).and_then(|action| opposite(action)));
-            Some(Found { at, end, word })
-        }
-        _ if b.is_ascii_alphanumeric() => {
-            let end = run_end(text, at + 1, |b| b.is_ascii_alphanumeric());
-            let word = run_word(&text[at..end]);
             Some(Found { at, end, word })
         }
         _ => Some(Found {
