@@ -1,7 +1,10 @@
 -- The modules of two files, shown one file after the other. Assumes nothing.
-use Rattle.std.proofs.Common.{◌≡◌, ℕ, ◌+◌, ◌≤◌, true, List, ◌++◌, length, drop, Some, None, Option, refl, ap, ◌∙◌, arith, length-append}
+use Rattle.std.proofs.Common.{◌≡◌, ℕ, ◌+◌, ◌≤◌, true, List, ◌++◌, length, drop, IfOk, Some, None, string_bytes, Option, Result, String, refl, ap, ◌∙◌, arith, length-append}
+use Rattle.std.specs.declared.alloc.AllocError.{AllocError}
+use Rattle.std.specs.declared.alloc.Global.{Global}
 use Rattle.std.proofs.Math.Seq.{drop-append_seam}
 use Rattle.std.proofs.lemmas.List.{take_all, length-map}
+use Rattle.std.proofs.lemmas.Result.{IfOk-weaker}
 use Rattle.catalogue.specs.Catalogue.{Catalogue, most_modules}
 use Rattle.catalogue.specs.Layers.{joined}
 use Rattle.rows.specs.declared.row.Place.{Place}
@@ -29,6 +32,10 @@ pub as_joined : (front front' back back' : Catalogue) → front ≡ front' → b
 as_joined front front' back back' ef eb l =
     ap (λ (ms : Catalogue). joined_shown ms back) ef ∙ ap (joined_shown front') eb
     ∙ ap (λ (ms : Catalogue). catalogue_lines book_name 0 front' ++ catalogue_lines table_name (length front') ms) (behind front' back' l)
+
+-- and a text of them is that of what is asked
+pub text_as : (r : Result (String Global) AllocError) (a b : List ℕ) → a ≡ b → IfOk r (λ s. string_bytes s ≡ a) → IfOk r (λ s. string_bytes s ≡ b)
+text_as r a b e h = IfOk-weaker r (λ s. string_bytes s ≡ a) (λ s. string_bytes s ≡ b) (λ s w. w ∙ e) h
 
 -- how many modules the files may have
 pub opened_few : (ps : List Place) (ms : List ModuleRow) → length (opened ps ms) ≤ length ms

@@ -1,7 +1,8 @@
 // What the programs print of the two files that they read: a planner's book and a maker's table.
 #![tactic(auto)]
 
-ghost use Rattle.std.specs.Prelude.{◌≡◌, ◌≢◌, ◌≤◌, take, IfOk, Some, string_bytes, vec_len};
+ghost use Rattle.std.specs.Prelude.{◌≡◌, ◌≢◌, ◌+◌, ◌≤◌, length, take, IfOk, Some, string_bytes, vec_len};
+ghost use Rattle.catalogue.specs.Catalogue.{most_modules};
 ghost use Rattle.rows.specs.Opening.{opened};
 ghost use Rattle.table_format.specs.Reading.{meaning};
 ghost use Rattle.maker_table.specs.Table.{written};
@@ -9,7 +10,7 @@ ghost use Rattle.table_format.specs.declared.fault.TableFault.TheVariants.{NoMem
 ghost use Rattle.output.specs.declared.FileFault.TheVariants.{Book as BookAt, Table as TableAt};
 ghost use Rattle.output.specs.Output.{place_rows, module_rows, file_fault_text, file_fault_line, asked_of, output};
 ghost use Rattle.output.specs.Taking.{Takes};
-ghost use Rattle.output.specs.Showing.{printed};
+ghost use Rattle.output.specs.Showing.{modules_printed, printed};
 ghost use Rattle.output.specs.Worked.{Worked};
 
 use book::Book;
@@ -150,6 +151,31 @@ fn refused_text(heap: Global, why: FileFault) -> Result<String, AllocError>
     format!(in heap; "{why}\n")
 }
 
+// What the modules of the book mean, then what those of the table do: each file's under its name, with the numbers that they have
+// where the two are joined.
+#[derive(Drop)]
+struct ModulesText<'a, 'b> {
+    both: &'a Joined<Book<'b>, Table>,
+}
+
+impl fmt::Display for ModulesText<'_, '_> {
+    ghost output = { λ m. Some (modules_printed m.both.now) };
+
+    fn fmt<W: fmt::Write>(&self, f: &mut fmt::Formatter<W>) -> fmt::Result {
+        let book = CatalogueText {
+            name: BOOK_NAME,
+            catalogue: self.both.front(),
+            first: 0,
+        };
+        let table = CatalogueText {
+            name: TABLE_NAME,
+            catalogue: self.both,
+            first: self.both.front().modules(),
+        };
+        write!(f, "{book}{table}")
+    }
+}
+
 // What is printed of the two files. A text is kept whole. Of the modules there can be far more text than memory, so they are kept as a
 // catalogue, and print themselves line by line.
 #[derive(Drop)]
@@ -165,24 +191,52 @@ impl fmt::Display for Printout<'_> {
         match self {
             Printout::Text(text) => write!(f, "{text}"),
             Printout::Modules(both) => {
-                let book = CatalogueText {
-                    name: BOOK_NAME,
-                    catalogue: both.front(),
-                    first: 0,
-                };
-                let table = CatalogueText {
-                    name: TABLE_NAME,
-                    catalogue: both,
-                    first: both.front().modules(),
-                };
-                write!(f, "{book}{table}")
+                let modules = ModulesText { both };
+                write!(f, "{modules}")
             }
         }
     }
 }
 
-// What is asked of the modules of the book in the rows, and of those of the table. A request is what the arguments say, and no
+// What is asked of the modules of the book, and of those of the table, as one text. A request is what the arguments say, and no
 // closure could stand for it, since what it asks is generic in the catalogue.
+fn answer_text(
+    heap: Global,
+    request: Request,
+    both: &Joined<Book, Table>,
+) -> Result<String, AllocError>
+    requires all_fit { length (opened both.now.front.places.now both.now.front.modules.now) + length (meaning (written both.now.back)) ≤ most_modules }
+    ensures { IfOk result (λ s. string_bytes s ≡ asked_of request (opened both.now.front.places.now both.now.front.modules.now) (meaning (written both.now.back))) }
+{
+    match request {
+        Request::Modules => {
+            let modules = ModulesText { both };
+            format!(in heap; "{modules}")
+        }
+        Request::Comparisons => comparisons_text(heap, both),
+        Request::Comparison(new, old) => comparison_text(heap, both, new, old),
+        Request::Swaps => swaps_text(heap, both),
+    }
+}
+
+// The same of the book in the rows. The modules, which are large, stand in a frame of their own.
+fn taken_text(
+    heap: Global,
+    request: Request,
+    rows: &Rows,
+    taken: Taken,
+) -> Result<String, AllocError>
+    requires places { taken.places ≤ vec_len rows.now.places }
+    requires modules { taken.modules ≤ vec_len rows.now.modules }
+    ensures { IfOk result (λ s. string_bytes s ≡ asked_of request (opened (take taken.places rows.now.places.items) (take taken.modules rows.now.modules.items)) (meaning (written taken.table))) }
+{
+    let book = Book::over(&rows.places[..taken.places], &rows.modules[..taken.modules]);
+    let both = Joined::new(book, taken.table);
+    answer_text(heap, request, &both)
+}
+
+// The same, with the modules kept as a catalogue. That is large, so it is made for the request for modules alone, and where it is
+// handed up.
 fn taken_shown<'a>(
     heap: Global,
     request: Request,
@@ -193,15 +247,12 @@ fn taken_shown<'a>(
     requires modules { taken.modules ≤ vec_len rows.now.modules }
     ensures { IfOk result (λ s. printed s ≡ asked_of request (opened (take taken.places rows.now.places.items) (take taken.modules rows.now.modules.items)) (meaning (written taken.table))) }
 {
-    let book = Book::over(&rows.places[..taken.places], &rows.modules[..taken.modules]);
-    let both = Joined::new(book, taken.table);
     match request {
-        Request::Modules => Ok(Printout::Modules(both)),
-        Request::Comparisons => Ok(Printout::Text(comparisons_text(heap, &both)?)),
-        Request::Comparison(new, old) => Ok(Printout::Text(comparison_text(
-            heap, &both, new, old,
-        )?)),
-        Request::Swaps => Ok(Printout::Text(swaps_text(heap, &both)?)),
+        Request::Modules => {
+            let book = Book::over(&rows.places[..taken.places], &rows.modules[..taken.modules]);
+            Ok(Printout::Modules(Joined::new(book, taken.table)))
+        }
+        asked => Ok(Printout::Text(taken_text(heap, asked, rows, taken)?)),
     }
 }
 
@@ -224,7 +275,7 @@ pub fn show<'a>(
     }
 }
 
-// The same as one text.
+// The same as one text, which is handed up as it was made.
 pub fn output_text(
     heap: Global,
     request: Request,
@@ -234,6 +285,8 @@ pub fn output_text(
     ensures { IfOk result (λ s. string_bytes s ≡ output request book.items table.items) }
 {
     let mut rows = Rows::new(heap)?;
-    let shown = show(heap, request, &book, table, &mut rows)?;
-    format!(in heap; "{shown}")
+    match take_files(heap, &book, table, &mut rows) {
+        Ok(taken) => taken_text(heap, request, &rows, taken),
+        Err(fault) => refused_text(heap, fault),
+    }
 }

@@ -18,5 +18,5 @@ returns-in-Modules c =
     let table : Catalogue = meaning (written c.args.taken.table) in
     let few : length ms ≤ 64 = omega (arith, length-take c.args.taken.modules c.args.rows.now.modules.items, c.requires.modules, c.args.rows.now.modules_len) in
     let same : opened c.over-book.result.places.now c.over-book.result.modules.now ≡ book = search rules in
-    as_joined _ book _ table (c.new-both.ensures.front ∙ same) c.new-both.ensures.back (omega (arith, few, opened_few ps ms, taken_few (written c.args.taken.table) c.args.taken.table.fine))
+    as_joined _ book _ table (c.new.ensures.front ∙ same) c.new.ensures.back (omega (arith, few, opened_few ps ms, taken_few (written c.args.taken.table) c.args.taken.table.fine))
     ∙ ap (λ (q : Request). asked_of q book table) (sym c.in-Modules.is)
