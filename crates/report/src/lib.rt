@@ -1,9 +1,9 @@
-// What is printed of a catalogue; and which files the programs read.
+// What is printed of a catalogue, and of a file that is refused; and which files the programs read.
 #![tactic(auto)]
 
 mod words;
 
-pub use words::{ActionText, CatalogueText};
+pub use words::{ActionText, CatalogueText, catalogue_text, fault_text, long_text, refused_text};
 
 // A file may have this many bytes.
 pub const LONGEST_FILE: usize = 65_536;

@@ -11,7 +11,7 @@ use std::fmt;
 
 mod lines;
 
-pub use lines::CatalogueText;
+pub use lines::{CatalogueText, catalogue_text, fault_text, long_text, refused_text};
 
 // An action, to be written as in a book: `?7`, `!7` or `i`.
 #[derive(Clone, Copy)]

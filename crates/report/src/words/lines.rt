@@ -1,10 +1,11 @@
-// The lines that tell what a catalogue means.
-ghost use Rattle.std.specs.Prelude.{drop, Some};
+// The lines that tell of a file: what it means, or why it is refused.
+ghost use Rattle.std.specs.Prelude.{◌≡◌, drop, IfOk, IfSome, Some, string_bytes};
 ghost use Rattle.catalogue.specs.Catalogue.{module_in, state_in};
-ghost use Rattle.report.specs.Text.{state_line, module_lines, catalogue_lines};
+ghost use Rattle.report.specs.Text.{state_line, module_lines, catalogue_lines, fault_line, refused_line, long_line};
 
 use super::{MovesText, TickText, UrgentText};
 use catalogue::Catalogue;
+use std::alloc::{AllocError, Global};
 use std::fmt;
 
 // The line of a state.
@@ -88,4 +89,47 @@ impl<C: Catalogue> fmt::Display for CatalogueText<'_, C> {
         }
         Ok(())
     }
+}
+
+// What a file means, under its name, as one text. The programs keep no such text, and print a `CatalogueText`.
+pub fn catalogue_text<C: Catalogue>(
+    heap: Global,
+    name: &str,
+    catalogue: &C,
+) -> Result<String, AllocError>
+    ensures { IfOk result (λ s. string_bytes s ≡ catalogue_lines name.now 0 (C.Catalogue.meaning catalogue.now)) }
+{
+    let text = CatalogueText {
+        name,
+        catalogue,
+        first: 0,
+    };
+    let out = format!(in heap; "{text}")?;
+    Ok(out)
+}
+
+// Why a file is refused, under its name: the number of the refusal, and its place in the file. It stays as callers know it; the
+// programs print a fault as `output` tells it.
+pub fn fault_text(heap: Global, name: &str, number: u8, place: usize) -> Result<String, AllocError>
+    ensures { IfOk result (λ s. string_bytes s ≡ fault_line name.now number place) }
+{
+    format!(in heap; "{name} {number} {place}\n")
+}
+
+// Why a file is refused, under its name, by what prints as the reason.
+pub fn refused_text<E: fmt::Display>(
+    heap: Global,
+    name: &str,
+    why: &E,
+) -> Result<String, AllocError>
+    ensures { IfOk result (λ s. IfSome (E.output why.now) (λ t. string_bytes s ≡ refused_line name.now t)) }
+{
+    format!(in heap; "{name} {why}\n")
+}
+
+// That a file is longer than a file may be, under its name. A line without a value needs no type that prints it.
+pub fn long_text(heap: Global, name: &str) -> Result<String, AllocError>
+    ensures { IfOk result (λ s. string_bytes s ≡ long_line name.now) }
+{
+    format!(in heap; "{name} long\n")
 }
