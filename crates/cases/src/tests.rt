@@ -9,6 +9,7 @@ mod limits;
 mod refused;
 mod shown;
 mod taken;
+mod told;
 
 // The bytes of a text of hexadecimal digits, two to a byte; spaces count for nothing.
 fn bytes_of(rt: &impl Abort, heap: Global, text: &str) -> Result<Vec<u8>, Fail> {
