@@ -61,8 +61,12 @@ module _ (l : Line) where
       all_every (λ (x : Slot). ltb x.holds (length ms)) (knows ms (line_of l)) (in_use l) (λ i x k. ap (λ (y : rules.Slot). ltb y.holds (length ms)) (slot_at i x k))
       ∙ ap (λ n. every n (knows ms (line_of l))) (sym (length-map (in_use l) slot_of))
 
-  pub held_is : (ms : Catalogue) (s : List ℕ) (i : ℕ) → i < length (in_use l) → i < length s → (x : Slot) → ((d : Slot) → x ≡ get_or (in_use l) i d) → (k : ℕ) → ((d : ℕ) → k ≡ get_or s i d) → held ms (line_of l) s i ≡ image x.renaming.entries (state_in ms x.holds k).urgent
-  held_is ms s i h c x is k now =
+  pub held_is : (ms : Catalogue) (i : ℕ) (x : Slot) → i < length (in_use l) → (s : List ℕ) → held ms (line_of l) s i ≡ image (get_or (in_use l) i x).renaming.entries (state_in ms (get_or (in_use l) i x).holds (get_or s i 0)).urgent
+  held_is ms i x h s = ap (λ (y : rules.Slot). image y.wiring (state_in ms y.holds (get_or s i 0)).urgent) (slot_at i x h)
+
+  -- of a slot and a code that are read one beside the other
+  pub held_at : (ms : Catalogue) (s : List ℕ) (i : ℕ) → i < length (in_use l) → i < length s → (x : Slot) → ((d : Slot) → x ≡ get_or (in_use l) i d) → (k : ℕ) → ((d : ℕ) → k ≡ get_or s i d) → held ms (line_of l) s i ≡ image x.renaming.entries (state_in ms x.holds k).urgent
+  held_at ms s i h c x is k now =
       ap (λ (y : rules.Slot). image y.wiring (state_in ms y.holds (get_or s i 0)).urgent) (slot_at i x h ∙ ap slot_of (sym (is x)))
       ∙ ap (λ n. image x.renaming.entries (state_in ms x.holds n).urgent) (sym (now 0))
 
